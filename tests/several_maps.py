@@ -130,8 +130,8 @@ class SeveralMaps(StockCase):
                 self.assertEqual(len(error.splitlines()), 1, (tree, error))
 
     def test_stories_and_pictures(self) -> None:
-        """A group's story ends with Ceph's set, whichever map has it, by the cluster's names; a page and a picture have
-        each OSD once."""
+        """A group's story ends with Ceph's set, whichever map has it, by the cluster's names; a picture has each OSD
+        once, and a page three times: as it is, and before and after the plan."""
         for group in ("1.0", "2.1", "3.ff", "4.7f"):
             with self.subTest(group=group):
                 lines = self.output("explain", *self.dumps(SEVERAL), group).splitlines()
@@ -139,10 +139,10 @@ class SeveralMaps(StockCase):
         self.assertStarts(
             lines[1], "its rule ssd: take default~ssd; chooseleaf as many as the pool's size of type host (firstn)"
         )
-        for word in ("picture", "report"):
+        for word, pictures in (("picture", 1), ("report", 3)):
             with self.subTest(word=word):
                 page = self.output(word, *self.dumps(SEVERAL))
-                self.assertEqual(page.count('class="c"'), 64, word)
+                self.assertEqual(page.count('class="c"'), pictures * 64, word)
                 self.assertIn("ceph-07", page, word)
                 self.assertNotIn("~", page, word)
         xml.etree.ElementTree.fromstring(self.output("picture", *self.dumps(SEVERAL)))

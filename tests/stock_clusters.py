@@ -338,11 +338,10 @@ class StockClusters(StockCase):
                     f"{moved} groups, ",
                     name,
                 )
-                for word in ("picture", "report"):
+                osds = len([row for row in tree["nodes"] if row["id"] >= 0])
+                for word, pictures in (("picture", 1), ("report", 3)):
                     page = self.output(word, path, "--names", self.tools.folder / "names")
-                    self.assertEqual(
-                        page.count('class="c"'), len([row for row in tree["nodes"] if row["id"] >= 0]), (name, word)
-                    )
+                    self.assertEqual(page.count('class="c"'), pictures * osds, (name, word))
                 xml.etree.ElementTree.fromstring(self.output("picture", path))
                 output, _ = self.tools.run("shell", path, stdin=f"up {group}\nepoch\n")[1:]
                 self.assertEqual(output, f"up 1000 {group} {ceph_set(STOCK[name]['up'][group])}\nepoch 1000\n")

@@ -121,7 +121,7 @@ asking_text asking = whole_text asking.line.now asking.rest.now
 
 -- the text that begins with a line
 abbrev pub text_from : FirstLine → List ℕ
-text_from first = whole_text first.line.text.now first.rest.now
+text_from first = whole_text first.line.now first.rest.now
 
 -- ---- sessions
 

@@ -4,7 +4,7 @@ ghost use Rattle.std.specs.Prelude.{◌<◌};
 use crate::desk::Desk;
 use crate::error::SessionError;
 use crate::gate::Gate;
-use crate::line::{Asking, Left, read_first};
+use crate::line::{Asking, first_asking};
 use crate::progress::Progress;
 use crate::sink::Sink;
 use crate::telling::tell_answer;
@@ -51,27 +51,24 @@ impl<'a, R: Wait, G: Gate, K: Keeps + Drop> Desk<'a, R, G, K> {
         progress: &mut Progress,
         text: &'t [u8],
         sink: &mut W,
-    ) -> Result<Left<'t>, SessionError>
+    ) -> Result<&'t [u8], SessionError>
         requires shared { IsSharing self.now.monitor.now hold.shared.now hold.member.now }
         requires shares { ((line : ℕ) → G.lets self.now.gate.now line true) × (W.waits sink.old ≡ false) }
         requires unfailed { W.has_failed sink.old ≡ false }
         requires few { progress.old.number + length text.now < 2 ^ 64 }
         ensures follower { progress.new.follower ≡ progress.old.follower }
-        ensures left { IfOk result (λ left. IsLeft progress.old.number progress.new.number text.now left.text.now) }
+        ensures left { IfOk result (λ rest. IsLeft progress.old.number progress.new.number text.now rest.now) }
         ensures answers { AnswersLines (session_at self.now G.lets)
             (stand_in hold.entry.shared.now hold.entry.member.now progress.old)
-            (stand_in hold.entry.shared.now hold.entry.member.now progress.new) text.now (λ left. left.text.now)
+            (stand_in hold.entry.shared.now hold.entry.member.now progress.new) text.now (λ rest. rest.now)
             (W.written sink.old) (W.written sink.new) result }
         ensures failed { W.has_failed sink.new ≡ has_sink_failed result }
     {
         let mut rest = text;
-        let mut room = LINES_IN_A_HOLD.saturating_sub(lines_of(&progress.text));
-        while room > 0 {
-            let Some(first) = read_first(rest) else {
+        let mut left = LINES_IN_A_HOLD.saturating_sub(lines_of(&progress.text));
+        while left > 0 {
+            let Some(asking) = first_asking(rest) else {
                 break;
-            };
-            let Some(asking) = first.asking() else {
-                return Ok(Left::with(rest, first));
             };
             let found = self
                 .monitor
@@ -79,9 +76,9 @@ impl<'a, R: Wait, G: Gate, K: Keeps + Drop> Desk<'a, R, G, K> {
             tell_answer(found, &mut progress.text, sink)?;
             progress.number += 1;
             rest = asking.rest;
-            room = room.saturating_sub(lines_of(&progress.text));
+            left = left.saturating_sub(lines_of(&progress.text));
         }
-        Ok(Left::of(rest))
+        Ok(rest)
     }
 
     /// Whether a run of questions may be answered in one hold of the lock: no gate is to be asked, no write may wait,
@@ -106,16 +103,16 @@ impl<'a, R: Wait, G: Gate, K: Keeps + Drop> Desk<'a, R, G, K> {
         progress: &mut Progress,
         asking: Asking<'t>,
         sink: &mut W,
-    ) -> Result<Left<'t>, SessionError>
+    ) -> Result<&'t [u8], SessionError>
         requires session { IsAtDesk self.now member.old progress.old (W.has_failed sink.old) false }
         requires shares { ((line : ℕ) → G.lets self.now.gate.now line true) × (W.waits sink.old ≡ false) }
         requires asks { IsAsking asking.line.now asking.question }
         requires few { progress.old.number + length (asking_text asking) < 2 ^ 64 }
         ensures session { IsAtDesk self.now member.new progress.new (W.has_failed sink.new) (has_sink_failed result) }
-        ensures left { IfOk result (λ left. IsLeft (progress.old.number + 1) progress.new.number
-            asking.entry.rest.now left.text.now) }
+        ensures left { IfOk result (λ rest. IsLeft (progress.old.number + 1) progress.new.number
+            asking.entry.rest.now rest.now) }
         ensures answers { AnswersLines (session_at self.now G.lets) (stand member.old progress.old)
-            (stand member.new progress.new) (asking_text asking.entry) (λ left. left.text.now)
+            (stand member.new progress.new) (asking_text asking.entry) (λ rest. rest.now)
             (W.written sink.old) (W.written sink.new) result }
     {
         let shared = match self.monitor.share(self.rt, member) {
@@ -123,7 +120,7 @@ impl<'a, R: Wait, G: Gate, K: Keeps + Drop> Desk<'a, R, G, K> {
             Err(refusal) => {
                 tell_answer(Err(refusal), &mut progress.text, sink)?;
                 progress.number += 1;
-                return Ok(Left::of(asking.rest));
+                return Ok(asking.rest);
             }
         };
         let found = self.monitor.answer(&shared, member, asking.question);

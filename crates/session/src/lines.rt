@@ -1,9 +1,10 @@
 //! The lines of a session, one after the other: each is read into its command, asked, and its answer told.
 
+use crate::command::Command;
 use crate::desk::Desk;
 use crate::error::SessionError;
 use crate::gate::Gate;
-use crate::line::{FirstLine, Left, Line, read_line};
+use crate::line::{Asking, FirstLine, Line, cut, read_line};
 use crate::parse::known_in;
 use crate::progress::Progress;
 use crate::sink::Sink;
@@ -50,24 +51,32 @@ impl<'a, R: Wait, G: Gate, K: Keeps + Drop> Desk<'a, R, G, K> {
         progress: &mut Progress,
         first: FirstLine<'t>,
         sink: &mut W,
-    ) -> Result<Left<'t>, SessionError>
+    ) -> Result<&'t [u8], SessionError>
         requires session { IsAtDesk self.now member.old progress.old (W.has_failed sink.old) false }
+        requires line { IsPart first.line.now }
         requires few { progress.old.number + length (text_from first) < 2 ^ 64 }
         ensures session { IsAtDesk self.now member.new progress.new (W.has_failed sink.new) (has_sink_failed result) }
-        ensures left { IfOk result (λ left. IsLeft (progress.old.number + 1) progress.new.number
-            first.entry.rest.now left.text.now) }
+        ensures left { IfOk result (λ rest. IsLeft (progress.old.number + 1) progress.new.number
+            first.entry.rest.now rest.now) }
         ensures answers { AnswersLines (session_at self.now G.lets) (stand member.old progress.old)
-            (stand member.new progress.new) (text_from first.entry) (λ left. left.text.now)
+            (stand member.new progress.new) (text_from first.entry) (λ rest. rest.now)
             (W.written sink.old) (W.written sink.new) result }
     {
-        if let Some(asking) = first.asking() {
-            if self.may_share(member, asking.rest, sink) {
+        let FirstLine { line: text, rest } = first;
+        let line = read_line(text);
+        if let Some(Command::Ask(question)) = line.command {
+            if self.may_share(member, rest, sink) {
+                let asking = Asking {
+                    line: text,
+                    question,
+                    rest,
+                };
                 return self.answer_run(member, progress, asking, sink);
             }
         }
-        self.answer(member, progress, first.line, sink)?;
+        self.answer(member, progress, line, sink)?;
         progress.number += 1;
-        Ok(Left::of(first.rest))
+        Ok(rest)
     }
 
     /// Answers each line that ends in a text: what is left of the text, in which no line ends.
@@ -86,12 +95,12 @@ impl<'a, R: Wait, G: Gate, K: Keeps + Drop> Desk<'a, R, G, K> {
             (stand member.new progress.new) text.now (λ rest. rest.now)
             (W.written sink.old) (W.written sink.new) result }
     {
-        let mut left = Left::of(text);
-        while let Some(first) = left.first() {
+        let mut rest = text;
+        while let Some(first) = cut(rest) {
             flush_if_full(sink)?;
-            left = self.answer_first(member, progress, first, sink)?;
+            rest = self.answer_first(member, progress, first, sink)?;
         }
-        Ok(left.text)
+        Ok(rest)
     }
 
     /// Answers the last line, which no newline ends, where there is one.

@@ -7,10 +7,10 @@ use Rattle.session.proofs.desk.Desk.answer_lines.Given as goal
 abbrev pub invariant-loop-first : goal.invariant-loop-first
 invariant-loop-first g l =
     ((put : List ℕ) × Passes (session_of l.self.monitor.now (g.G.Gate.lets l.self.gate.now)) l.fn.progress.number
-    (sight_by l.fn.member l.fn.progress.follower) l.text put l.progress.number (sight_by l.member l.progress.follower) l.left.text.now
+    (sight_by l.fn.member l.fn.progress.follower) l.text put l.progress.number (sight_by l.member l.progress.follower) l.rest
     × (g.W.Sink.written l.sink ≡ g.W.Sink.written l.fn.sink ++ put))
     × IsAtDesk l.self l.member l.progress (g.W.Sink.has_failed l.sink) false
-    × (l.progress.number + length l.left.text.now < 2 ^ 64)
+    × (l.progress.number + length l.rest < 2 ^ 64)
 
 abbrev pub decreases-loop-first : goal.decreases-loop-first
-decreases-loop-first g l = length l.left.text.now
+decreases-loop-first g l = length l.rest

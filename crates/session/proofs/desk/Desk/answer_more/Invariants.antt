@@ -4,13 +4,13 @@ use Rattle.session.specs.Readings.{Passes}
 use Rattle.session.proofs.desk.Desk.answer_more.Given as goal
 
 -- the lines before the rest are answered, each of which took a byte at least; no write has failed, and none waits
-abbrev pub invariant-loop-room : goal.invariant-loop-room
-invariant-loop-room g l =
+abbrev pub invariant-loop-left : goal.invariant-loop-left
+invariant-loop-left g l =
     ((put : List ℕ) × Passes (session_of l.self.monitor.now (g.G.Gate.lets l.self.gate.now)) l.fn.progress.number
     (sight_in l.hold.shared.now l.hold.member.now l.fn.progress.follower) l.text put l.progress.number (sight_in l.hold.shared.now l.hold.member.now l.fn.progress.follower) l.rest
     × (g.W.Sink.written l.sink ≡ g.W.Sink.written l.fn.sink ++ put))
     × (g.W.Sink.has_failed l.sink ≡ false) × (g.W.Sink.waits l.sink ≡ false) × (l.progress.follower ≡ l.fn.progress.follower)
     × (l.progress.number + length l.rest ≤ l.fn.progress.number + length l.text) × (length l.rest ≤ length l.text)
 
-abbrev pub decreases-loop-room : goal.decreases-loop-room
-decreases-loop-room g l = l.room
+abbrev pub decreases-loop-left : goal.decreases-loop-left
+decreases-loop-left g l = l.left

@@ -1,10 +1,10 @@
-use Rattle.std.proofs.Common.{Bool, List, ◌+◌, ◌++◌, ◌∷◌, Err, refl, sym, ap, subst, arith}
+use Rattle.std.proofs.Common.{Bool, List, ◌+◌, ◌++◌, ◌∷◌, Err, refl, ap, arith}
 use Rattle.std.specs.declared.vec.Vec.{Vec}
 use Rattle.std.specs.declared.alloc.Global.{Global}
 use Rattle.monitor.specs.Members.{draws_made}
 use Rattle.session.specs.declared.reply.Speaker.TheVariants.{Monitor}
 use Rattle.session.specs.Answers.{Sight}
-use Rattle.session.specs.Readings.{AnswersLines, Passes, Stand}
+use Rattle.session.specs.Readings.{AnswersLines, Stand}
 use Rattle.session.specs.Replies.{answer_text}
 use Rattle.session.specs.Sessions.{sight_by, session_of, basis_of, stand, stand_in}
 use Rattle.session.specs.Texts.{line_of, refusal_text}
@@ -32,9 +32,7 @@ returns-in-Err-clause-answers g c =
     c.in-Err.ensures.turn.spent.1 (ap draws_made c.in-Err.ensures.turn.spent.2) (ap own_of c.share.ensures.turn.own) in
     let answered = answers_question basis before now line question answer c.requires.asks.1 asked refl own in
     let taken = takes_question basis (g.G.Gate.lets c.args.self.now.gate.now) number before now line question answer c.requires.shares.0 c.requires.asks.1 answered in
-    let others = c.args.asking.rest.now in
-    let passed = passes_line m number before now line others answer c.requires.asks.0 taken in
-    (answer, subst (λ r. Passes m number before (line ++ 10 ∷ others) answer (number + 1) now r) (sym c.of.ensures) passed, c.in_ok-tell_answer-in-Err.ensures.out)
+    (answer, passes_line m number before now line c.args.asking.rest.now answer c.requires.asks.0 taken, c.in_ok-tell_answer-in-Err.ensures.out)
 
 pub returns-in_err-tell_answer-in-Err-clause-answers : goal.returns-in_err-tell_answer-in-Err-clause-answers
 returns-in_err-tell_answer-in-Err-clause-answers g c =
@@ -55,7 +53,7 @@ returns-in_err-tell_answer-in-Err-clause-answers g c =
     let answered = answers_question basis from.seen now.seen line question answer c.requires.asks.1 asked refl own in
     let (cut, stopped, more) = told_line m from now line answer before after (Err error) (some_line line question c.requires.asks.1)
     (c.requires.shares.0 from.number) answered c.in_err-tell_answer-in-Err.ensures.out in
-    handed_on (AnswersLines m from now (line ++ 10 ∷ others) (λ left. left.text.now) before after) c.from_residual.result error c.from_residual.ensures.1
+    handed_on (AnswersLines m from now (line ++ 10 ∷ others) (λ rest. rest.now) before after) c.from_residual.result error c.from_residual.ensures.1
     (cut, halted_line m error from.number from.seen now.seen line others cut c.requires.asks.0 stopped, more)
 
 pub returns-clause-answers : goal.returns-clause-answers
@@ -86,7 +84,7 @@ returns-clause-answers g c =
           let same = same_sight shared c.give_back.new.member c.share.new.member w.answer_more-done.new.progress.follower w.answer_more-done.new.progress.follower
           c.give_back.ensures.pass c.give_back.ensures.own c.give_back.ensures.draws refl in
           rw (w.done-is, w.progress-is, w.sink-is, same)
-          (lines_more m from between to (line ++ 10 ∷ others) answer others before mid (g.W.Sink.written w.answer_more-done.new.sink) (λ left. left.text.now)
+          (lines_more m from between to (line ++ 10 ∷ others) answer others before mid (g.W.Sink.written w.answer_more-done.new.sink) (λ rest. rest.now)
           w.answer_more-done.result passed w.in-Ok-tell_answer.ensures.out w.answer_more-done.ensures.answers)
       | in-Err-tell_answer w ↦
           let same = same_sight shared c.give_back.new.member c.share.new.member c.args.progress.now.follower c.args.progress.now.follower c.give_back.ensures.pass c.give_back.ensures.own c.give_back.ensures.draws refl in
