@@ -112,6 +112,11 @@ class Loads:
         """
         place, squared, found = self.pools[number].place, MEAN_PARTS * MEAN_PARTS, {}
         groups, data = self.groups, self.data
+        if not place:
+            for osd, own in self.own[number].items():
+                nearest = (groups[osd] - own + STEP_PARTS) // (2 * STEP_PARTS)
+                found[osd] = -half if nearest < -half else half if nearest > half else nearest
+            return found
         one = STEP_PARTS * (2 * squared + WEIGHT * place * place)
         for osd, own in self.own[number].items():
             parts = (groups[osd] - own) * squared + WEIGHT * place * (data[osd] - own * place)

@@ -150,7 +150,7 @@ class Planner:
         self.refusals = {
             number: barred_words(why) for live in lives for number, why in live.barred.items() if number in wanted
         }
-        self.loads = self.begun()
+        self.loads: Loads  # begins with `play`
         self.left: dict[str, Reason] = {}
         self.hopeless: set[int] = set()
 
