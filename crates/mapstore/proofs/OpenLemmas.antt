@@ -39,6 +39,7 @@ next_epoch m row step makes =
     let tests = none_wrong (makes.base == m.epoch && row.epoch == m.epoch + 1) _ _ makes.sound in
     grind (arith, nat_tests, tests)
 
+-- a change makes the map of its own epoch
 epoch_made : (m : ClusterMap) (step : Step) → (apply m step).epoch ≡ step.epoch
 unfolding apply
 epoch_made m step = refl
