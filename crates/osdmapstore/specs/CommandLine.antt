@@ -1,7 +1,6 @@
 -- What the words of the program's command line ask for, by the parser's own definitions of what it finds in words.
 use Rattle.std.specs.Prelude.{◌≡◌, true, ℕ, pos, List, [], ◌∷◌, codes, Option, Some, option_map, Result}
 use Rattle.std.specs.Prelude.{string_bytes}
-use Rattle.clap.specs.declared.builder.value_parser.ValueParser.TheVariants.{Signed}
 use Rattle.clap.specs.declared.builder.action.ArgAction.TheVariants.{Set, Append}
 use Rattle.clap.specs.Lexer.{usize_max}
 use Rattle.clap.specs.Walk.{Row, Rule, Text, first_of}
