@@ -1,2 +1,1 @@
-mod LeftJournals
 mod OpenedBack
