@@ -368,8 +368,8 @@ class StoreFiles(StoreCase):
     # What sqlite3 reads
 
     def test_read_by_sqlite(self) -> None:
-        """sqlite3 finds the store sound, and in it the two tables, the first map and a row for each change; also once
-        it was opened again."""
+        """sqlite3 finds the store sound, and in it the two tables, the first map and a row for each change; also once it
+        was opened again."""
         self.five()
         with opened(copied(self.store, self.folder / "copy")) as database:
             self.assertEqual(database.execute("pragma integrity_check").fetchall(), [("ok",)])
