@@ -43,6 +43,7 @@ fn check_epoch(map: &OsdMap) -> Result<(), OpenError>
 }
 
 /// The store over texts that stand for a map, which the journal begins with.
+#[tactic(auto, using(crate::proofs::OpenLemmas::held_first))]
 fn hold<S: Alter>(
     alloc: Global,
     texts: TextStore<S>,

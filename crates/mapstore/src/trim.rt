@@ -60,6 +60,7 @@ fn shorten(alloc: Global, found: StoredTexts, keep: u32) -> Result<StoredTexts, 
 }
 
 /// Whether two maps have one text: then they are one.
+#[tactic(auto, using(crate::proofs::OpenLemmas::same_maps))]
 fn is_same(alloc: Global, left: &OsdMap, map: &OsdMap) -> Result<bool, Memory>
     ensures { IfOk result (λ same. same ≡ true → left.now.map ≡ map.now.map) }
 {
