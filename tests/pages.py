@@ -374,7 +374,7 @@ class Pages(Case):
         }
         unknown = {named for named in said if named[1] not in known | OPTIONS_OF_OTHERS}
         idle = OPTIONS_OF_OTHERS - {option for _, option in said}
-        self.assertEqual(len(own), 7, (unknown, idle))
+        self.assertEqual(len(own), 6, (unknown, idle))
         self.assertFalse(unknown, (unknown, idle))
         self.assertFalse(idle, (unknown, idle))
 

@@ -220,7 +220,7 @@ class PythonStores(ToolCase):
             pass
         told = f"{self.path()}: the store is damaged, or another program has written it"
         self.is_told(self.tools.run("history", self.path()), 1, told, "changed")
-        self.is_unopened("the store is damaged, or another program has written it", self.monitor)
+        self.is_unopened("the store is damaged", self.monitor)
 
     def test_backup(self) -> None:
         """`backup` makes a store of one file, also while a program has the store open, and tells its epoch; what keeps

@@ -36,8 +36,6 @@ FAILED, NOT_COPIED = 6, 5
 LOOKS = ("up 1.0", "count 3", "groups 1", "epoch")
 # So many changes a swept run makes; and so many are made at most until a log is copied into its file.
 CHANGES, MOST = 6, 5000
-# So many changes are left as a store is opened.
-KEPT = 1
 KIB = 1 << 10
 
 
@@ -188,7 +186,7 @@ class Sweep:
                 **self.variables,
             }
             given["REFUSE_NTH"] = str(1 + (number - 1) * self.stride)
-            begin: list[object] = ["--keep", KEPT] if self.made else ["--begin", EXAMPLE]
+            begin: list[object] = [] if self.made else ["--begin", EXAMPLE]
             talk = Talk([self.case.command, *begin, store, "-"], given)
             for _ in range(self.changes * talk.is_live):
                 talk.turn()
@@ -271,7 +269,7 @@ class StoreFailures(StoreCase):
         self.sweeps([])
 
     def test_open(self) -> None:
-        """A store with three changes that is opened, which leaves one, and changed, with each call refused."""
+        """A store with three changes that is opened and changed, with each call refused."""
         self.sweeps(with_rows(self, 3))
 
     def test_long_log(self) -> None:

@@ -1,6 +1,6 @@
 //! A store that is begun, changed, cut and opened again, by an example.
 
-use crate::{StoreError, StoredText, begin, open};
+use crate::{StoreError, begin, open};
 use sqlite::Unknown;
 use std::fs;
 use std::test::Fail;
@@ -20,11 +20,10 @@ fn make(rt: &HostRuntime) -> Result<(), StoreError> {
     store.append(9, "to 9")
 }
 
-// Opens the store, and makes a text of an epoch its first map, with all changes behind it or with none.
-fn cut(rt: &HostRuntime, epoch: u64, text: &str, all: bool) -> Result<(), StoreError> {
-    let (mut store, texts) = open(rt, PATH, Unknown)?;
-    let kept: &[StoredText] = if all { &texts.changes } else { &[] };
-    store.checkpoint(rt.alloc(), epoch, text, kept)
+// Opens the store, and makes a text of an epoch its first map.
+fn cut(rt: &HostRuntime, epoch: u64, text: &str) -> Result<(), StoreError> {
+    let (mut store, _) = open(rt, PATH, Unknown)?;
+    store.checkpoint(rt.alloc(), epoch, text)
 }
 
 // Of the store the epoch of its first map, how many changes it has, and whether the last text is this.
@@ -45,12 +44,9 @@ fn what_is_written_is_there_again(rt: HostRuntime) {
     assert_eq!(rt; make(&rt), Ok(()));
     assert_eq!(rt; make(&rt), Err(StoreError::Begun));
     assert_eq!(rt; look(&rt, "to 9"), Ok((7, 2, true)));
-    assert_eq!(rt; cut(&rt, 8, "map 8", false), Err(StoreError::EpochTaken));
-    assert_eq!(rt; cut(&rt, 8, "map 8", true), Err(StoreError::EpochTaken));
+    assert_eq!(rt; cut(&rt, 8, "map 8"), Err(StoreError::EpochTaken));
     assert_eq!(rt; look(&rt, "to 9"), Ok((7, 2, true)));
-    assert_eq!(rt; cut(&rt, 6, "map 6", true), Ok(()));
-    assert_eq!(rt; look(&rt, "to 9"), Ok((6, 2, true)));
-    assert_eq!(rt; cut(&rt, 9, "map 9", false), Ok(()));
+    assert_eq!(rt; cut(&rt, 9, "map 9"), Ok(()));
     assert_eq!(rt; look(&rt, "map 9"), Ok((9, 0, true)));
     sweep(&rt);
 }

@@ -4,7 +4,6 @@
 //! - `store`: the store
 //! - `found`: the map that the texts of a store stand for
 //! - `opening`: how a store is begun and opened
-//! - `trim`: how its first map moves on, so that not all changes are kept
 //! - `witness`: who is told that a store has failed
 //! - `error`: why a store is not begun or opened
 #![tactic(auto)]
@@ -15,7 +14,6 @@ mod found;
 mod opening;
 mod row;
 mod store;
-mod trim;
 mod witness;
 
 pub use error::OpenError;

@@ -4,23 +4,17 @@ ghost use Rattle.std.specs.Prelude.{◌≡◌, ◌≤◌, OnOk, OnErr};
 
 use crate::row::write_row;
 use crate::witness::Witness;
-use journalstore::{StoreError, StoredTexts, TextStore};
+use journalstore::{StoreError, TextStore};
 use keeping::{Keeps, NotKept};
 use maptypes::Incremental;
-use osdmap::OsdMap;
 use sqlite::Alter;
 use std::alloc::Global;
-use std::snapshot::Snapshot;
 
-/// A journal in a database: the map that was found there, and the incrementals since.
+/// A journal in a database: its first map, and the incrementals since.
 #[derive(Drop)]
 pub struct MapStore<S: Alter> {
     pub(crate) texts: TextStore<S>,
-    /// The texts that were found, behind which those of the incrementals stand.
-    pub(crate) past: Snapshot<StoredTexts>,
-    /// The map that they stand for.
-    pub(crate) found: Snapshot<OsdMap>,
-    /// No change has a later epoch.
+    /// No incremental has a later epoch.
     pub(crate) last: u64,
     pub(crate) alloc: Global,
     /// Who is told why it fails.
