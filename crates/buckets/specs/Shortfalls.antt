@@ -1,5 +1,4 @@
--- How far the logarithms of numbers fall short of 2 ^ 48 at least, so that few need be worked out. No definition rests
--- on it.
+-- How far the logarithms of numbers fall short of 2 ^ 48 at least, so that few need be worked out. No definition rests on it.
 use Rattle.std.specs.Prelude.{ℕ, ◌^◌, List, [], ◌∷◌, ◌++◌, replicate}
 
 -- by the high byte of a number below 2 ^ 16
