@@ -101,7 +101,7 @@ class Cluster:
         self.trees = {number: self.trees_of(*own) for number, own in self.pools.items()}
         self.start = self.sets([]) if self.maps else {}
         self.shares = {number: self.shares_of(number) for number in self.pools}
-        self.places = self.data()
+        self.places = self.data(1)
 
     def brought(self, *given: Any) -> Any:
         """The maps of the cluster: its one map, or all that it takes; none where it does not come in."""
@@ -129,12 +129,13 @@ class Cluster:
                 ]
         return [{osd: self.weights[osd] * weights[osd] for osd in tree if weights.get(osd)} for tree in trees]
 
-    def sets(self, lines: Any) -> Any:
-        """The up set of each group once commands are given."""
+    def sets(self, lines: Any, is_up: bool = False) -> Any:
+        """The up set of each group once commands are given; also as it is where all OSDs are up."""
         found = {}
         for value in self.maps:
             asked = [group for pool in value["pools"] for group in groups_in(pool)]
-            path = self.runs.map(with_lines(value, lines))
+            own = dict(value, osds=[dict(osd, up=osd["exists"]) for osd in value["osds"]]) if is_up else value
+            path = self.runs.map(with_lines(own, lines))
             answers = output(self.runs.words(path, "".join(f"up {group}\n" for group in asked)))
             for group, answer in zip(asked, answers):
                 found[group] = [
@@ -162,9 +163,13 @@ class Cluster:
             found.update({osd: held * weight / sum(tree.values()) for osd, weight in tree.items()})
         return found
 
-    def data(self) -> dict[Any, Any]:
-        """The bytes of a place of each pool."""
-        rng, raw = random.Random(1), {}
+    def draw(self, number: int) -> None:
+        """Draws what the pools hold anew, the draw of a number."""
+        self.places = self.data(number)
+
+    def data(self, draw: int) -> dict[Any, Any]:
+        """The bytes of a place of each pool, by the draw of a number."""
+        rng, raw = random.Random(draw), {}
         for number in sorted(self.pools):
             raw[number], name = 10 ** rng.uniform(-1, 1), self.names[number].lower()
             if "mgr" in name or "device_health" in name:

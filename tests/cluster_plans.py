@@ -86,6 +86,7 @@ class Model:
         self.of_place = {
             pool: Fraction(held[pool], own) / mean if held else Fraction(0) for pool, own in self.places.items()
         }
+        self.before = {pool: self.deviations(pool) for pool in self.places}
 
     def groups(self, pool: int) -> list[str]:
         """The groups of a pool."""
@@ -182,6 +183,15 @@ class LastPass:
         }
         whole = sum(self.load.values())
         self.want = {osd: Fraction(whole * weight, model.total) for osd, weight in model.weights.items()}
+        self.is_far, self.most, self.most_all = False, dict.fromkeys(model.places, Fraction(2)), Fraction(3)
+
+    def go_far(self) -> None:
+        """From now on pools may get 4 groups from their shares and all together 5, or as far as they were before."""
+        before = self.model.before
+        self.is_far = True
+        sums = [sum((own[osd] for own in before.values()), Fraction(0)) for osd in self.want]
+        self.most = {pool: max(Fraction(4), *(abs(more) for more in own.values())) for pool, own in before.items()}
+        self.most_all = max(Fraction(5), *(abs(more) for more in sums))
 
     def ratio(self, osd: int) -> Fraction:
         """What an OSD has to what it is to have."""
@@ -196,11 +206,11 @@ class LastPass:
         away = [(self.load[osd] - self.want[osd], more, self.want[osd]) for osd, more in pairs]
         return sum(((own**2 - (own + more) ** 2) / want for own, more, want in away), Fraction(0))
 
-    def keeps(self, pools: Iterable[int], leaves: int, comes: int, most: int) -> bool:
-        """Whether some pools together stay within so many groups of their shares, or get nearer."""
+    def keeps(self, pools: Iterable[int], leaves: int, comes: int, most: Fraction) -> bool:
+        """Whether some pools together stay within so many groups of their shares, or get nearer, or no further."""
         found = [self.model.deviations(pool) for pool in pools]
         more, less = (sum(own[osd] for own in found) for osd in (leaves, comes))
-        return more - less > 1 or (less + 1 <= most and more - 1 >= -most)
+        return more - less >= 1 or (less + 1 <= most and more - 1 >= -most)
 
     def on(self, pool: int, osd: int) -> set[int]:
         """What the groups of a pool hold that an OSD has."""
@@ -225,7 +235,8 @@ class LastPass:
             (-self.gain(full, osd, size), pool, osd, size)
             for pool in self.wanted
             for osd in self.want
-            if osd != full and self.keeps([pool], full, osd, 2) and self.keeps(self.model.places, full, osd, 3)
+            if osd != full and self.keeps([pool], full, osd, self.most[pool])
+            if self.keeps(self.model.places, full, osd, self.most_all)
             for size in self.on(pool, full)
         )
         for gain, pool, osd, size in ways:
@@ -243,7 +254,8 @@ class LastPass:
             for other in self.wanted
             for osd in self.want
             if osd != full
-            if pool == other or (self.keeps([pool], full, osd, 2) and self.keeps([other], osd, full, 2))
+            if pool == other or self.keeps([pool], full, osd, self.most[pool])
+            if pool == other or self.keeps([other], osd, full, self.most[other])
             for size in self.on(pool, full)
             for less in self.on(other, osd)
         )
@@ -256,14 +268,18 @@ class LastPass:
         return False
 
     def play(self) -> None:
-        """Makes the moves, until what is fullest beyond 1.05 cannot be made less full."""
+        """Makes the moves, until what is fullest beyond 1.05 cannot be made less full; and then, with pools further
+        from their shares, what is fullest beyond 1.1."""
         stuck: set[int] = set()
         has_moved = False
         while any(self.want.values()):
-            left = [osd for osd in self.want if osd not in stuck and self.ratio(osd) > Fraction(21, 20)]
+            bound = Fraction(11, 10) if self.is_far else Fraction(21, 20)
+            left = [osd for osd in self.want if osd not in stuck and self.ratio(osd) > bound]
             if not left:
                 if not has_moved or not stuck:
-                    return
+                    if self.is_far:
+                        return
+                    self.go_far()
                 stuck, has_moved = set(), False
                 continue
             full = max(left, key=lambda osd: (self.ratio(osd), -osd))

@@ -9,12 +9,20 @@ import random
 from collections.abc import Mapping
 
 from rekhuso.plans.blocks import MapBlocks
+from rekhuso.plans.last_pass import is_near
+from rekhuso.plans.loads import GROUP_PARTS
 
 from tests.cluster_plans import Measured, Model, is_of, random_cluster, stats_of
 from tests.clusters import STOCK, Json, below, commands, of_groups, places, with_commands
 from tests.tool_cases import StockCase
 
 MANY, HYBRID = "025-many-pools", "018-hybrid"
+# Clusters of which plans leave OSDs too full, the draws of what their pools hold, and the words of the plans.
+REASONS: tuple[tuple[str, int, tuple[str, ...]], ...] = (
+    ("006-class-rules-only", 1, ()),
+    ("011-drained", 1, ("--room",)),
+    ("011-drained", 3, ("--room",)),
+)
 
 
 def made_up(name: str, seed: int) -> dict[int, int]:
@@ -97,6 +105,25 @@ class DataPlans(StockCase):
                 self.assertLess(len(set(of_groups(first[: len(room)])) - set(of_groups(room))), 4)
         self.assertEqual(commands(self.output("plan", *files, "--max", 5)), room[:5])
 
+    def test_reasons(self) -> None:
+        """A plan tells of each OSD that it leaves above 1.1 of its share, and of no other, in which pools most of its
+        bytes are and what keeps them there."""
+        for name, seed, words in REASONS:
+            with self.subTest(name=name, seed=seed, words=words):
+                files, maps, of_place = self.with_data(name, made_up(name, seed))
+                told = self.json("plan", *files, *words)
+                lines = told["commands"]
+                after = [with_commands(value, [line for line in lines if is_of(line, value)]) for value in maps]
+                measured = Measured(after, self.sets(*after), of_place)
+                shares = {osd: share for osd, share in measured.share[1].items() if share > 0}
+                full = {osd for osd, share in shares.items() if measured.has[1].get(osd, 0) > 1.1 * share}
+                stays = told["data"]["stays"]
+                self.assertEqual({own["id"] for own in stays}, full)
+                self.assertGreater(len(full), 0)
+                for own in stays:
+                    self.assertLess(abs(own["ratio"] - measured.has[1][own["id"]] / shares[own["id"]]), 0.001)
+                    self.assertGreater(sum(pool["bytes"] for pool in own["pools"]), own["has"] * 0.9)
+
     def test_several_blocks(self) -> None:
         """A pool whose rule has two blocks is planned by data: each place goes to an OSD of its own block, each copy
         on a host of its own, and the fullest OSD comes to its share. Without data it gets no plan, as before."""
@@ -138,6 +165,22 @@ class DataPlans(StockCase):
                             self.assertEqual(found, wanted, (group, leaves, comes))
                             may += wanted
         self.assertGreater(may, 1000)
+
+    def test_near_shares(self) -> None:
+        """Two OSDs stay near their shares where a group goes from one to the other and neither gets further than so
+        many groups from its share; or where they get nearer together, or change places."""
+        for more, less, most, wanted in (
+            (1, 1, 2, True),
+            (1, 1.5, 2, False),
+            (-1.5, -3, 2, True),
+            (-1.5, -2, 2, False),
+            (4.5, 3.25, 2, True),
+            (4.5, 3.5, 2, True),
+            (4.5, 3.75, 2, False),
+            (4.5, 3.75, 5, True),
+        ):
+            parts = [round(own * GROUP_PARTS) for own in (more, less, most)]
+            self.assertEqual(is_near(*parts), wanted, (more, less, most))
 
     def test_words(self) -> None:
         """A plan for room without data, or with what would be passed over, is an error of use."""

@@ -15,7 +15,10 @@ DIGITS = 3
 WORDS = "|".join(NUMBERS)
 FIGURE = rf"({NUMBER}|{WORDS})"
 UNITS = "min|minutes?|s|seconds?|hours?|ms|µs|ns|GB|microseconds|milliseconds|instructions"
-BESIDE = r"of \d+ pools|`up` lines|of (?:the|its) instructions|of (?:plain )?C\b|of its share"
+BESIDE = (
+    r"of \d+ pools|`up` lines|lines a second|a second\b|% of (?:the )?processor|processor minutes|bytes a group"
+    r"|times the (?:memory|time)|of (?:the|its) instructions|of (?:plain )?C\b|of its share"
+)
 
 
 class Cells(NamedTuple):
@@ -69,7 +72,7 @@ def by_data(name: str, *plans: tuple[str, tuple[str, ...]]) -> Tie:
 
 def by_runs(*columns: str) -> tuple[Cells, ...]:
     """Columns of the row that counts all plans by data."""
-    return tuple(Cells("whole_cluster", "60 clusters, plan --df", column, only) for column in columns)
+    return tuple(Cells("plans_by_data", "60 clusters, plan --df", column, only) for column in columns)
 
 
 ALL_OF_PLAN, NOT_MOVED = ("commands", "data moved, TiB", "after"), ("commands", "after")
@@ -213,22 +216,37 @@ TIES = [
     ),
     Tie(
         "docs/FORMATS.md",
-        "take {} ms (groups of 10 over ten racks of 1 to 10 hosts), {} ms (1,024 moves, each of which "
-        "opens others) and {} ms (all pairs of OSDs",
+        "take {} ms (groups of 10 over ten racks of 1 to 10 hosts), under `--stock` {} ms (groups of 20 over twenty "
+        "racks of 2 to 21 hosts)",
         one("cliffs", ".*10 racks of 1 to 10 hosts, groups of 10", "it takes")
-        + one("cliffs", ".*each move opens others.*", "it takes")
-        + one("cliffs", ".*all pairs of OSDs shut by racks.*", "it takes"),
+        + one("cliffs", ".*20 racks of 2 to 21 hosts, groups of 20, straw2", "it takes"),
     ),
     Tie(
         "docs/FORMATS.md",
-        "A plan for a pool of 65,536 groups over 1,008 OSDs takes {} ms",
-        one("wide", "a plan, ms", "1,008 OSDs: 65,536 groups"),
+        "these are {} ms (the same racks) and {} ms (groups of 3 over racks",
+        one("cliffs", ".*over the same, 65,536 groups", "it takes")
+        + one("cliffs", ".*3 racks of 128, 128, 256 hosts, 65,536 groups, straw2", "it takes"),
+    ),
+    Tie(
+        "docs/FORMATS.md",
+        "a pair for each of 1,048,576 groups takes {} ms, explicit sets of 20 for 65,536 groups {} ms",
+        one("cliffs", "one change: a pair for each of 1,048,576 groups of 256 pools", "it takes")
+        + one("cliffs", "one change: explicit sets for 65,536 groups of size 20 over 40 OSDs", "it takes"),
     ),
     Tie("docs/PROVED.md", "It takes {} to {} minutes and proves nothing", said=("gate", RUNS)),
     Tie(
         "docs/DECISIONS.md",
         "some {} instructions more for each pool",
         said=("tried", "some {} instructions more for each pool"),
+    ),
+    *(
+        Tie("docs/DECISIONS.md", words, said=("tried", words))
+        for words in (
+            "{} to {} bytes a group",
+            "some {} to {} % of the processor time of a plan",
+            "costs the proof of all that drops a connection, some {} processor minutes",
+            "some {} processor minutes longer",
+        )
     ),
     Tie("docs/DECISIONS.md", "sleeps 250 microseconds after each 512 looks"),
     Tie("docs/PROVED.md", "searched for five to ten minutes"),
@@ -245,15 +263,14 @@ TIES = [
     ),
     Tie(
         "docs/CEPH.md",
-        "Over 60 clusters with data drawn twice for each, {} of {} runs had such an OSD before, and {} have one after",
-        by_runs("above 1.1 before", "runs", "above 1.1 after"),
+        "Over 60 clusters with data drawn twice for each, {} of {} runs had such an OSD before, and {} have one after "
+        "`plan --df`. In {} of them",
+        by_runs("above 1.1 before", "runs", "above 1.1 after", "above 1.1 by any plan"),
     ),
-    Tie("docs/DECISIONS.md", "Of {} plans by data {} leave an OSD above", by_runs("runs", "above 1.1 after")),
     Tie(
         "docs/DECISIONS.md",
-        "failure domains in {}, a monitor in {}, groups as large as what would be gained in {}, shares of pools in {}, "
-        "and means of groups' sizes in {}.",
-        by_runs("by failure domains", "by a monitor", "by sizes", "by shares", "by means"),
+        "Of {} plans by data {} leave an OSD above 1.1** of what it is to have, where 20 of 128 were wanted. In {} no",
+        by_runs("runs", "above 1.1 after", "above 1.1 by any plan"),
     ),
     Tie("docs/CEPH.md", "(G + 10 s B)"),
     by_data("lab", ("plan", ALL_OF_PLAN), *BY_DATA, ("plan --df --pgs --osds", ALL_OF_PLAN)),

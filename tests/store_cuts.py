@@ -20,6 +20,8 @@ from tests.store_failures import Call, Talk, calls_in, change_at, refuser, with_
 from tests.stores import Done, StoreCase, log_of
 
 SECTOR, CHANGES, AGAIN = 512, 8, 4
+# So many changes are left as a store is opened again.
+KEPT = 3
 # So many of the cuts are tried while a long log is copied into its file.
 TRIED = 100
 WAYS = ("nothing", "all", "the last", "sectors", "other sectors", "garbage")
@@ -142,12 +144,13 @@ class StoreCuts(StoreCase):
             self.opened[count] = Done(0, f"epoch {count + 1}\nsession 1\ndump {dump}\n", "")
 
     def test_cuts(self) -> None:
-        """The power is cut while a store is begun and changed, and while it is opened again and changed."""
+        """The power is cut while a store is begun and changed, and while it is opened again, which leaves some changes,
+        and changed."""
         self.know([change_at(epoch) for epoch in range(1, 1 + CHANGES + AGAIN)])
         calls, ends = self.noted([self.command, "--begin", EXAMPLE, self.store, "-"], 1, CHANGES)
         self.judge([*self.cuts(calls, ends, {}, 0)])
         before = self.files()
-        calls, ends = self.noted([self.command, self.store, "-"], 1 + CHANGES, AGAIN)
+        calls, ends = self.noted([self.command, "--keep", KEPT, self.store, "-"], 1 + CHANGES, AGAIN)
         self.judge([*self.cuts(calls, ends, before, CHANGES)])
         self.assertGreater(len(calls), 10)
 
@@ -157,7 +160,7 @@ class StoreCuts(StoreCase):
         made = len(lines)
         self.know(lines + [change_at(epoch) for epoch in range(1 + made, 1 + made + AGAIN)])
         before = self.files()
-        calls, ends = self.noted([self.command, self.store, "-"], 1 + made, AGAIN)
+        calls, ends = self.noted([self.command, "--keep", KEPT, self.store, "-"], 1 + made, AGAIN)
         cuts = [*self.cuts(calls, ends, before, made)]
         self.assertIn((self.store.name, "w"), {(call.name, call.kind) for call in calls}, "the log was not copied")
         self.judge(random.Random(3).sample(cuts, min(TRIED, len(cuts))))

@@ -7,6 +7,7 @@ look-ups go on; the run tells why in one line, and ends with status 6; and no ru
 
 import contextlib
 import dataclasses
+import errno
 import os
 import pathlib
 import resource
@@ -36,6 +37,8 @@ FAILED, NOT_COPIED = 6, 5
 LOOKS = ("up 1.0", "count 3", "groups 1", "epoch")
 # So many changes a swept run makes; and so many are made at most until a log is copied into its file.
 CHANGES, MOST = 6, 5000
+# So many changes are left as a store is opened.
+KEPT = 1
 KIB = 1 << 10
 
 
@@ -186,7 +189,7 @@ class Sweep:
                 **self.variables,
             }
             given["REFUSE_NTH"] = str(1 + (number - 1) * self.stride)
-            begin: list[object] = [] if self.made else ["--begin", EXAMPLE]
+            begin: list[object] = ["--keep", KEPT] if self.made else ["--begin", EXAMPLE]
             talk = Talk([self.case.command, *begin, store, "-"], given)
             for _ in range(self.changes * talk.is_live):
                 talk.turn()
@@ -249,18 +252,21 @@ class StoreFailures(StoreCase):
 
     def sweeps(self, made: list[str], stride: int = 1, changes: int = CHANGES) -> None:
         """Refuses each call of runs in turn, in each way."""
-        library = refuser(self.folder)
         for error, number in ERRORS.items():
             for way, set_ in WAYS.items():
                 variables = {"REFUSE_ERRNO": number, **{name: "1" for name in set_}}
-                swept = Sweep(self, library, made, variables, stride=stride, changes=changes)
-                count = 0
-                for call, (wrong, came) in grown(swept):
-                    count += came
-                    if came or wrong:
-                        with self.subTest(f"{error}, {way}, call {1 + (call - 1) * stride}"):
-                            self.assertIsNone(wrong)
-                self.assertGreater(count, 5, "calls that were refused")
+                swept = Sweep(self, refuser(self.folder), made, variables, stride=stride, changes=changes)
+                self.sweep(swept, f"{error}, {way}")
+
+    def sweep(self, swept: Sweep, way: str) -> None:
+        """Refuses each call of runs in turn."""
+        count = 0
+        for call, (wrong, came) in grown(swept):
+            count += came
+            if came or wrong:
+                with self.subTest(f"{way}, call {1 + (call - 1) * swept.stride}"):
+                    self.assertIsNone(wrong)
+        self.assertGreater(count, 5, "calls that were refused")
 
     # Calls that are refused
 
@@ -269,12 +275,17 @@ class StoreFailures(StoreCase):
         self.sweeps([])
 
     def test_open(self) -> None:
-        """A store with three changes that is opened and changed, with each call refused."""
+        """A store with three changes that is opened, which leaves one, and changed, with each call refused."""
         self.sweeps(with_rows(self, 3))
 
     def test_long_log(self) -> None:
         """A store whose log is copied into its file as it is opened, with some calls refused."""
         self.sweeps(with_long_log(self), stride=7, changes=2)
+
+    def test_interrupted(self) -> None:
+        """A store with three changes that is opened and changed, with each call interrupted by a signal once."""
+        given = {"REFUSE_ERRNO": str(errno.EINTR)}
+        self.sweep(Sweep(self, refuser(self.folder), with_rows(self, 3), given), "interrupted")
 
     def test_one_sync(self) -> None:
         """Before a change is answered it is written and then synced, once but for the first of a run; and nothing is
@@ -334,8 +345,9 @@ class StoreFailures(StoreCase):
             made, open_line = talked.made(), talked.not_stored()[:1]
             self.judge_store(made, open_line, copied(self.store, self.folder / "copy"), True)
             done = self.ran(self.store)
-            if done.status:
-                self.assertEqual(done, Done(5, "", "store: the disk is full\n"))
+            if done.status:  # It is not opened, or at the end there is no room for what its log holds.
+                told = ("", f"epoch {1 + len(made)}\n")
+                self.assertIn(done, [Done(5, text, "store: the disk is full\n") for text in told])
             self.judge_store(made, open_line, copied(self.store, self.folder / "copy"), True)
             self.make_room(8000 * KIB)
             self.judge_store(made, open_line, self.store, True)

@@ -53,7 +53,7 @@ TABLES = [
     ("map", "CREATE TABLE map (epoch INTEGER PRIMARY KEY, text TEXT NOT NULL) STRICT"),
 ]
 MISSING, FOREIGN = "there is no store at this path", "the file is not a store"
-UNOPENED, DAMAGED = "the file cannot be opened", "the store is damaged"
+UNOPENED, DAMAGED = "the file cannot be opened", "the store is damaged, or another program has written it"
 NOBODY = 65534
 # So many places of a store, and so many of its log, are damaged, and so many lengths cut, beside those at edges.
 PLACES, LOG_PLACES, LENGTHS = (2000, 2000, 200) if os.environ.get("LONG") else (200, 80, 20)
@@ -274,6 +274,8 @@ class StoreFiles(StoreCase):
             ["--begin", EXAMPLE],
             ["--journal", 0, self.store],
             ["--journal=65537", self.store],
+            ["--keep=-1", self.store],
+            ["--keep=1000001", self.store],
         ]
         for line in lines:
             with self.subTest(line=[str(word) for word in line]):
@@ -285,8 +287,25 @@ class StoreFiles(StoreCase):
         self.assertEqual(self.ran("--begin", EXAMPLE, self.store), Done(0, "epoch 1\n", ""))
         self.ran(self.store, "-", text=LINES)
         self.assertEqual(self.ran(self.store), Done(0, f"epoch {LAST}\n", ""))
+        self.assertEqual(self.ran("--keep", 0, self.store), Done(0, f"epoch {LAST}\n", ""))
         self.assertEqual(held(self.store).rows, [])
         self.answered(LAST, self.whole())
+
+    def test_keep(self) -> None:
+        """An open leaves the file as it is, unless it has more changes than are to be kept: then so many are left, and
+        the first map is the one before them."""
+        lines = LINES.splitlines()
+        for keep in (len(lines), len(lines) - 1, 2, 1, 0):
+            with self.subTest(keep=keep):
+                self.five()
+                before = settled(self.store).read_bytes()
+                self.assertEqual(self.ran("--keep", keep, self.store), Done(0, f"epoch {LAST}\n", ""))
+                found, gone = held(self.store), len(lines) - keep
+                self.assertEqual(found.first, (1 + gone, self.played(EXAMPLE, lines[:gone])[-1]))
+                self.assertEqual(found.rows, [(epoch, row(epoch)) for epoch in range(2 + gone, LAST + 1)])
+                if not gone:
+                    self.assertEqual(self.store.read_bytes(), before)
+                self.answered(LAST, self.whole())
 
     def test_journal(self) -> None:
         """A run takes as many changes as its journal has room for, and the next run as many again."""
@@ -349,8 +368,8 @@ class StoreFiles(StoreCase):
     # What sqlite3 reads
 
     def test_read_by_sqlite(self) -> None:
-        """sqlite3 finds the store sound, and in it the two tables, the first map and a row for each change; and no row
-        once it was opened again."""
+        """sqlite3 finds the store sound, and in it the two tables, the first map and a row for each change; also once
+        it was opened again."""
         self.five()
         with opened(copied(self.store, self.folder / "copy")) as database:
             self.assertEqual(database.execute("pragma integrity_check").fetchall(), [("ok",)])
@@ -360,7 +379,7 @@ class StoreFiles(StoreCase):
         self.assertEqual(found.first, (1, model.Cluster(example()).written()))
         self.assertEqual(found.rows, [(epoch, row(epoch)) for epoch in range(2, LAST + 1)])
         self.answered(LAST, self.whole())
-        self.assertEqual((held(self.store).first, held(self.store).rows), ((LAST, self.whole()), []))
+        self.assertEqual(held(self.store), found)
 
     def test_sums(self) -> None:
         """Each page ends in the sum that SQLite's extension cksumvfs makes."""

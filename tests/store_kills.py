@@ -35,6 +35,8 @@ BASES, LIVE_LINES = 250, 400
 # How a run is killed, and how often one in so many.
 WAYS = {"while it opens": 5, "one live session": 4, "sessions": 11}
 DELAYS = (0.01, 0.03, 0.1, 0.3)
+# So many changes are left as a store is opened.
+KEPT = 40
 # Refusals that nothing here gives cause for: out of memory, no seat, not sealed, not stored.
 NEVER = re.compile(r"err 3[0125] ")
 
@@ -155,7 +157,8 @@ class Story:
     """What became of a store so far: the line of each epoch, its row, and the maps between runs."""
 
     def __init__(self, first: Json) -> None:
-        self.epoch, self.lines = int(first["epoch"]), list[str]()
+        self.first = self.epoch = int(first["epoch"])
+        self.lines: list[str] = []
         self.rows: dict[int, str] = {}
         self.maps: dict[int, str] = {}
 
@@ -236,7 +239,7 @@ class Kills(StoreCase):
             to.append(str(files[session.name]))
         words += ["-"] * is_live + [f"/dev/fd/{pair.lines[0]}" for pair in pairs]
         to += ["-"] * is_live + [f"/dev/fd/{pair.answers[1]}" for pair in pairs]
-        options = [*self.options, f"--journal={journal}", *[f"--to={path}" for path in to]]
+        options = [*self.options, f"--journal={journal}", f"--keep={KEPT}", *[f"--to={path}" for path in to]]
         return [str(self.command), *options, str(self.store), *words]
 
     def start_sessions(self, seed: str, mark: int, are_many: bool, journal: int) -> Started:
@@ -259,7 +262,7 @@ class Kills(StoreCase):
         found, before = held(self.store), self.story.epoch
         rows = dict(found.rows)
         self.assertEqual([*rows], [*range(found.first[0] + 1, found.last + 1)])
-        self.assertEqual(found.first[1], self.story.maps.get(found.first[0]), "the first map")
+        self.assertEqual(found.first[1], self.map_at(found.first[0]), "the first map")
         self.assertEqual({epoch: self.story.rows.get(epoch, row) for epoch, row in rows.items()}, rows)
         if not is_open:
             self.assertEqual(found.last, before)
@@ -276,6 +279,12 @@ class Kills(StoreCase):
                 self.assertEqual(rows[epoch], f"{word} {written_change(change)}", f"the row of {epoch}")
         self.story.rows.update(rows)
         self.play(sessions, told, found.last)
+
+    def map_at(self, epoch: int) -> str:
+        """The map of an epoch up to the last run's end, as `osdmapd` makes it."""
+        base = max(known for known in self.story.maps if known <= epoch)
+        lines = self.story.lines[base - self.story.first : epoch - self.story.first]
+        return self.played(self.file("played", self.story.maps[base]), lines, *self.options)[-1]
 
     def told(self, sessions: list[Session]) -> dict[int, tuple[str, str]]:
         """The line and the answer of each epoch that a session was told to have made; no session goes back."""
@@ -351,23 +360,25 @@ class Kills(StoreCase):
         self.kills(2, 50, is_stock=True)
 
     def test_long_log(self) -> None:
-        """12 kills while a store is opened whose log is copied into its file."""
+        """12 kills while a store is opened whose log is copied into its file, and of whose changes a few are kept."""
         lines = with_long_log(self)
         epoch, dump = 1 + len(lines), self.played(EXAMPLE, lines)[-1]
         whole = Done(0, f"epoch {epoch}\nsession 1\ndump {dump}\n", "")
         kept, rng, begin = copied(self.store, self.folder / "kept"), random.Random(3), time.monotonic()
-        self.assertEqual(self.ran(self.store, "-", text="dump\n"), whole)
+        self.assertEqual(self.ran(f"--keep={KEPT}", self.store, "-", text="dump\n"), whole)
         opening = time.monotonic() - begin
         for number in range(12):
             with self.subTest(f"kill {number}"):
                 copied(kept, self.store)
-                with subprocess.Popen([self.command, self.store], stdout=subprocess.DEVNULL) as process:
+                with subprocess.Popen(
+                    [self.command, f"--keep={KEPT}", self.store], stdout=subprocess.DEVNULL
+                ) as process:
                     time.sleep(rng.uniform(0, opening))
                     process.kill()
                 found = held(self.store)
                 self.assertEqual(found.last, epoch)
-                self.assertIn(len(found.rows), (0, len(lines)))
-                self.assertEqual(self.ran(self.store, "-", text="dump\n"), whole)
+                self.assertIn(len(found.rows), (KEPT, len(lines)))
+                self.assertEqual(self.ran(f"--keep={KEPT}", self.store, "-", text="dump\n"), whole)
 
 
 def is_of(line: str, change: Json) -> bool:

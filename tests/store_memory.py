@@ -17,7 +17,8 @@ from tests.store_failures import Talk, Talked, with_rows
 from tests.stores import Done, StoreCase, copied, held
 
 MEMORY = "err 30 Memory"
-ROWS, CHANGES = 3, 3
+# The rows of the store, how many of them are left as it is opened, and the changes of a run.
+ROWS, KEPT, CHANGES = 3, 1, 3
 # How a run may end for want of memory: before it has begun, or where its log is copied into its file.
 ENDS = (Done(0, "", ""), Done(4, "", "memory\n"), Done(5, "", "store: memory is short\n"))
 
@@ -39,7 +40,7 @@ class Sweep:
             store, mark = folder / "store", folder / "refused"
             copied(self.case.store, store)
             given = {"LD_PRELOAD": str(self.library), "REFUSE_NTH": str(number * self.apart), "REFUSED": str(mark)}
-            begin: list[object] = [] if self.made else ["--begin", EXAMPLE]
+            begin: list[object] = ["--keep", KEPT] if self.made else ["--begin", EXAMPLE]
             talk = Talk([self.case.command, *begin, store, "-"], given)
             for _ in range(CHANGES * talk.is_live):
                 if talk.turn() == MEMORY:
@@ -93,5 +94,5 @@ class StoreMemory(StoreCase):
         self.sweeps([])
 
     def test_open(self) -> None:
-        """A store with changes that is opened and changed, with each growth refused."""
+        """A store with changes that is opened, which leaves one, and changed, with each growth refused."""
         self.sweeps(with_rows(self, ROWS))

@@ -195,14 +195,15 @@ module _ (m : ClusterMap) (p : PoolFacts) (cs : Aim) (moves : List Move) (v : Mo
       rw (next_is, mapped_gone now p cs v good) (replaced_to (pair_of_move v) (mapped_set now p v.group) stood)
 
   -- what is known of an OSD after a move: at least what was known before, and how far moves go to the OSD that is
-  -- emptier; nothing of those on which the group stands
-  pub bounds_moved : (before after : List (Option ℤ)) → AreBounds now p cs before
+  -- emptier, where some may go there; nothing of those on which the group stands
+  pub bounds_moved : (before after : List (Option ℤ)) (shut : ℕ → Bool) → AreBounds now p cs before
+      → ((from : ℕ) → shut from ≡ true → (g : ℕ) → g < p.pg_num → is_good next p cs (move_of from v.from g) ≡ false)
       → ((from : ℕ) (bound : ℤ) → bound_of after from ≡ Some bound
       → ((old : ℤ) × (bound_of before from ≡ Some old) × (int_lt bound old ≡ false))
-      × (is_candidate m p from ≡ true → int_lt bound (gap next p cs from v.from) ≡ false)
+      × (is_candidate m p from ≡ true → shut from ≡ false → int_lt bound (gap next p cs from v.from) ≡ false)
       × (stands from (group_at next p v.group).places ≡ false))
       → AreBounds next p cs after
-  bounds_moved before after are kept = λ from bound known to g below yes.
+  bounds_moved before after shut are none kept = λ from bound known to g below yes.
       let left = kept from bound known in
       let not_to : from ≢ v.to = λ e. absurd (false≢true (sym left.2 ∙ rw e to_stands)) in
       let from_is : is_candidate m p from ≡ true = sym (candidate_now m p (moves ++ v ∷ []) from) ∙ (good_candidates next p cs (move_of from to g) yes).0 in
@@ -212,7 +213,14 @@ module _ (m : ClusterMap) (p : PoolFacts) (cs : Aim) (moves : List Move) (v : Mo
             let off : stands from (group_at next p g).places ≡ false = rw g_is left.2 in
             absurd (false≢true (sym (stays_where_not next p from to (group_at next p g) off) ∙ (good_goes next p cs (move_of from to g) yes).1))
         | inr other ↦ elim (cases_Bool (eqb to v.from)) [
-          | inl emptier ↦ rw (eqb-true to v.from emptier) (left.1 from_is)
+          | inl emptier ↦
+              let to_is = eqb-true to v.from emptier in
+              elim (cases_Bool (shut from)) [
+                | inl closed ↦
+                    let yes_there : is_good next p cs (move_of from v.from g) ≡ true = rw to_is at yes in
+                    absurd (false≢true (sym (none from closed g below) ∙ yes_there))
+                | inr free ↦ rw to_is (left.1 from_is free)
+              ]
           | inr else ↦
               let not_group : g ≢ v.group = λ e. absurd (false≢true (sym other ∙ eq-eqb g v.group e)) in
               let not_from : to ≢ v.from = λ e. absurd (false≢true (sym else ∙ eq-eqb to v.from e)) in

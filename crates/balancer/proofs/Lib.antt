@@ -9,6 +9,7 @@ pub mod DeviationsSmall
 pub mod MovesCompare
 pub mod AllowedByTests
 pub mod MarksHold
+pub mod NumberedDomains
 pub mod OsdsNoneLeaves
 pub mod RowsOfGroups
 pub mod LowestGroup
@@ -18,6 +19,7 @@ pub mod MapAfterMove
 pub mod CountsAfterMove
 pub mod MovesMakeEven
 pub mod BoundsOfMoves
+pub mod ReachOfMoves
 pub mod StoredMoves
 pub mod GreedyMoveByMove
 pub mod RisingListsEqual

@@ -1,5 +1,5 @@
 -- What is known of where groups may not go: it holds for a whole failure domain, and what a move leaves of it.
-use Rattle.std.proofs.Common.{◌⊎◌, ◌≡◌, ◌≢◌, ◌∙◌, refl, sym, ap, ℕ, ◌<◌, Bool, true, false, not, ◌&&◌, ◌||◌, eqb, ℤ, List, [], ◌∷◌, length, get_or, set, replicate, position, Option, Some, None, inl, inr, arith}
+use Rattle.std.proofs.Common.{◌⊎◌, ◌≡◌, ◌≢◌, ◌∙◌, refl, sym, ap, ℕ, zero, ◌+◌, ◌<◌, ◌≤◌, Bool, true, false, not, ◌&&◌, ◌||◌, eqb, ℤ, List, [], ◌∷◌, length, get_or, set, replicate, position, Option, Some, None, inl, inr, arith}
 use mathlib.Core.Bool.{false≢true}
 use Rattle.std.specs.Prelude.{All, is_some, nat_lt}
 use Rattle.std.specs.List.{list_any, count_by}
@@ -20,7 +20,8 @@ use Rattle.balancer.specs.declared.group.Group.{Group}
 use Rattle.balancer.specs.declared.moves.Move.{Move}
 use Rattle.balancer.specs.Moves.{last_level, levels_of, domain_of, is_in_way, has_way}
 use Rattle.balancer.specs.Boards.{may_go, group_after}
-use Rattle.balancer.specs.Marks.{is_shut, shut_in, open_in, NoneGoes, IsMarked, IsBlocked}
+use Rattle.balancer.specs.declared.marks.Marks.{Marks}
+use Rattle.balancer.specs.Marks.{domain_number, AreNumbered, is_shut_at, is_shut, shut_in, open_in, NoneGoes, IsMarked, NumberAlike, IsLookedAt}
 use Rattle.balancer.proofs.AllowedByTests.{once_stands}
 
 -- where no element is found, none passes
@@ -93,7 +94,7 @@ module _ (m : ClusterMap) (p : PoolFacts) where
 -- ---- marks
 
 -- a mark more
-marked_more : (rows : List (List Bool)) (from to f t : ℕ) → is_shut (shut_in rows from to) f t ≡ true → (is_shut rows f t ≡ true) ⊎ ((f ≡ from) × (t ≡ to))
+marked_more : (rows : List (List Bool)) (from to f t : ℕ) → is_shut_at (shut_in rows from to) f t ≡ true → (is_shut_at rows f t ≡ true) ⊎ ((f ≡ from) × (t ≡ to))
 marked_more rows from to f t known = elim (cases_Bool (eqb f from)) [
   | inr other ↦ inl (rw (get_or-set_other rows from f (set (get_or rows from []) to true) [] (λ e. absurd (false≢true (sym other ∙ eq-eqb f from e)))) at known)
   | inl here ↦ elim (cases_lt from (length rows)) [
@@ -110,31 +111,49 @@ marked_more rows from to f t known = elim (cases_Bool (eqb f from)) [
   ]
 ]
 
--- a mark more, where none goes, is so as well
-pub shut_marked : (m : ClusterMap) (p : PoolFacts) (gs : List Group) (rows : List (List Bool)) (from to : ℕ) → NoneGoes m p gs from to → IsMarked m p gs rows → IsMarked m p gs (shut_in rows from to)
-shut_marked m p gs rows from to none marked = λ f t low known. elim (marked_more rows from to f t known) [
-  | inl before ↦ marked f t low before
-  | inr both ↦ rw (both.0, both.1) none
-]
+-- a mark more, where none goes to an OSD of the domain, is so as well
+pub shut_marked : (m : ClusterMap) (p : PoolFacts) (gs : List Group) (marks after : Marks) (from to : ℕ) → to < length m.presences → eqb to from ≡ false → NoneGoes m p gs from to → IsMarked m p gs marks
+    → after.rows.items ≡ shut_in marks.rows.items from (domain_number marks.numbers.items to) → NumberAlike after marks → IsMarked m p gs after
+shut_marked m p gs marks after from to below apart none marked rows alike = record {
+  numbered = rw (alike.numbers, alike.firsts) marked.numbered;
+  known = λ f t low known. elim (marked_more marks.rows.items from (domain_number marks.numbers.items to) f (domain_number marks.numbers.items t) (rw (rows, alike.numbers) at known)) [
+    | inl before ↦ marked.known f t low before
+    | inr both ↦ rw both.0 (none_too m p gs from to t apart (marked.numbered.alike t to low below both.1) none)
+  ];
+}
+
+-- so is one where none goes to any OSD
+pub all_marked : (m : ClusterMap) (p : PoolFacts) (gs : List Group) (marks after : Marks) (from d : ℕ) → ((to : ℕ) → NoneGoes m p gs from to) → IsMarked m p gs marks
+    → after.rows.items ≡ shut_in marks.rows.items from d → NumberAlike after marks → IsMarked m p gs after
+all_marked m p gs marks after from d none marked rows alike = record {
+  numbered = rw (alike.numbers, alike.firsts) marked.numbered;
+  known = λ f t low known. elim (marked_more marks.rows.items from d f (domain_number marks.numbers.items t) (rw (rows, alike.numbers) at known)) [
+    | inl before ↦ marked.known f t low before
+    | inr both ↦ rw both.0 (none t)
+  ];
+}
 
 -- nothing is known at the beginning
-pub none_marked : (m : ClusterMap) (p : PoolFacts) (gs : List Group) (n : ℕ) (rows : List (List Bool)) → rows ≡ replicate n (replicate n false) → IsMarked m p gs rows
-none_marked m p gs n rows is = λ f t low known. absurd (false≢true (sym (blank f t) ∙ rw is at known))
+pub none_marked : (m : ClusterMap) (p : PoolFacts) (gs : List Group) (n d : ℕ) (marks : Marks) → AreNumbered m p (length m.presences) marks.numbers.items marks.firsts.items → marks.rows.items ≡ replicate n (replicate d false) → IsMarked m p gs marks
+none_marked m p gs n d marks numbered is = record {
+  numbered = numbered;
+  known = λ f t low known. absurd (false≢true (sym (blank f (domain_number marks.numbers.items t)) ∙ rw is at known));
+}
   where
-    plain : (k : ℕ) → get_or (replicate n false) k false ≡ false
-    plain k = elim (cases_lt k n) [
-      | inl inside ↦ get_or-replicate n k false false inside
-      | inr past ↦ get_or_past (replicate n false) k false (omega (arith, length-replicate n false))
+    plain : (k : ℕ) → get_or (replicate d false) k false ≡ false
+    plain k = elim (cases_lt k d) [
+      | inl inside ↦ get_or-replicate d k false false inside
+      | inr past ↦ get_or_past (replicate d false) k false (omega (arith, length-replicate d false))
     ]
 
-    blank : (f t : ℕ) → is_shut (replicate n (replicate n false)) f t ≡ false
+    blank : (f t : ℕ) → is_shut_at (replicate n (replicate d false)) f t ≡ false
     blank f t = elim (cases_lt f n) [
-      | inl inside ↦ rw (get_or-replicate n f (replicate n false) [] inside) (plain t)
-      | inr past ↦ rw (get_or_past (replicate n (replicate n false)) f [] (omega (arith, length-replicate n (replicate n false)))) refl
+      | inl inside ↦ rw (get_or-replicate n f (replicate d false) [] inside) (plain t)
+      | inr past ↦ rw (get_or_past (replicate n (replicate d false)) f [] (omega (arith, length-replicate n (replicate d false)))) refl
     ]
 
 -- a mark less
-pub opened_marks : (rows : List (List Bool)) (from to f t : ℕ) → is_shut (open_in rows from to) f t ≡ true → (is_shut rows f t ≡ true) × (f ≡ from → t ≢ to)
+pub opened_marks : (rows : List (List Bool)) (from to f t : ℕ) → is_shut_at (open_in rows from to) f t ≡ true → (is_shut_at rows f t ≡ true) × (f ≡ from → t ≢ to)
 opened_marks rows from to f t known = elim (cases_Bool (eqb f from)) [
   | inr other ↦
       let apart : f ≢ from = λ e. absurd (false≢true (sym other ∙ eq-eqb f from e)) in
@@ -143,7 +162,7 @@ opened_marks rows from to f t known = elim (cases_Bool (eqb f from)) [
       let f_is = eqb-true f from here in
       elim (cases_lt from (length rows)) [
         | inr past ↦
-            let kept : is_shut rows f t ≡ true = rw (set_past rows from (set (get_or rows from []) to false) past) at known in
+            let kept : is_shut_at rows f t ≡ true = rw (set_past rows from (set (get_or rows from []) to false) past) at known in
             let none : get_or rows f [] ≡ [] = get_or_past rows f [] (rw f_is past) in
             absurd (false≢true (rw none at kept))
         | inl inside ↦
@@ -163,16 +182,82 @@ opened_marks rows from to f t known = elim (cases_Bool (eqb f from)) [
       | inr past ↦ get_or_past (set row k false) k false (omega (arith, length-set row k false, past))
     ]
 
--- a group may not go to a failure domain that is blocked for it, nor where there is none
-pub blocked_stays : (m : ClusterMap) (p : PoolFacts) (from to : ℕ) (g : Group) (domain : Option ℤ) → domain_of m (last_level (levels_of (steps_of m p))) to ≡ domain → IsBlocked m p from g domain → may_go m p from to g ≡ false
-unfolding may_go has_way
-blocked_stays m p from to g None nowhere blocked = rw nowhere (no_way _)
-  where
-    no_way : (b : Bool) → (b && false) ≡ false
-    no_way true = refl
-    no_way false = refl
-blocked_stays m p from to g (Some d) here blocked = false_from_ne_true _ (λ goes.
-    absurd (false≢true (sym blocked.3 ∙ goes_too m p from blocked.0 to g blocked.1 (here ∙ sym blocked.2) goes)))
+-- where a group may not go to one OSD of a domain, it may go to none of it
+pub stays_shut : (m : ClusterMap) (p : PoolFacts) (numbers firsts : List ℕ) (from d t : ℕ) (g : Group) → AreNumbered m p (length m.presences) numbers firsts → d < length firsts → eqb (get_or firsts d 0) from ≡ false
+    → may_go m p from (get_or firsts d 0) g ≡ false → t < length m.presences → domain_number numbers t ≡ d → may_go m p from t g ≡ false
+stays_shut m p numbers firsts from d t g is inside apart stays low here = false_from_ne_true _ (λ goes.
+    let first = is.each_first d inside in
+    absurd (false≢true (sym stays ∙ goes_too m p from (get_or firsts d 0) t g apart (is.alike t (get_or firsts d 0) low first.0 (here ∙ sym first.1)) goes)))
+
+-- ---- looking again
+
+-- what is known once the first so many domains were looked at again: nothing more than before, and none of it is wrong of
+-- a group and these domains
+pub record IsSeen (m : ClusterMap) (p : PoolFacts) (from : ℕ) (group : Group) (count : ℕ) (before now : Marks) : Type 0 where
+  pub alike : NumberAlike now before
+  pub known : (f t : ℕ) → t < length m.presences → is_shut now f t ≡ true
+      → (is_shut before f t ≡ true) × (f ≡ from → domain_number before.numbers.items t < count → may_go m p f t group ≡ false)
+
+module _ (m : ClusterMap) (p : PoolFacts) (from : ℕ) (group : Group) (before : Marks) (is : AreNumbered m p (length m.presences) before.numbers.items before.firsts.items) where
+  -- one domain more, to which the group may not go
+  seen_more : (d : ℕ) (now : Marks) → IsSeen m p from group d before now → ((t : ℕ) → t < length m.presences → domain_number before.numbers.items t ≡ d → is_shut now from t ≡ true → may_go m p from t group ≡ false) → IsSeen m p from group (d + 1) before now
+  seen_more d now seen here = record {
+    alike = seen.alike;
+    known = λ f t low known.
+        let so_far = seen.known f t low known in (
+          so_far.0,
+          λ e below. elim (cases_lt (domain_number before.numbers.items t) d) [
+            | inl less ↦ so_far.1 e less
+            | inr over ↦
+                let known_here : is_shut now from t ≡ true = rw e at known in
+                rw e (here t low (omega (arith, below, over)) known_here)
+          ],
+        );
+  }
+
+  -- one that is open
+  pub seen_open : (d : ℕ) (now : Marks) → IsSeen m p from group d before now → is_shut_at now.rows.items from d ≡ false → IsSeen m p from group (d + 1) before now
+  seen_open d now seen free = seen_more d now seen (λ t low e known.
+      let at : is_shut_at now.rows.items from (domain_number before.numbers.items t) ≡ true = rw seen.alike.numbers at known in
+      absurd (false≢true (sym free ∙ (rw e at at))))
+
+  -- one to which the group may not go
+  pub seen_shut : (d : ℕ) (now : Marks) → d < length before.firsts.items → IsSeen m p from group d before now → (eqb (get_or before.firsts.items d 0) from || may_go m p from (get_or before.firsts.items d 0) group) ≡ false → IsSeen m p from group (d + 1) before now
+  seen_shut d now inside seen stays =
+      let both = neither (eqb (get_or before.firsts.items d 0) from) (may_go m p from (get_or before.firsts.items d 0) group) stays in
+      seen_more d now seen (λ t low e known. stays_shut m p before.numbers.items before.firsts.items from d t group is inside both.0 both.1 low e)
+    where
+      neither : (a b : Bool) → (a || b) ≡ false → (a ≡ false) × (b ≡ false)
+      neither true b e = absurd (false≢true (sym e))
+      neither false b e = (refl, e)
+
+  -- one that is opened
+  pub seen_opened : (d : ℕ) (now after : Marks) → IsSeen m p from group d before now → after.rows.items ≡ open_in now.rows.items from d → NumberAlike after now → IsSeen m p from group (d + 1) before after
+  seen_opened d now after seen rows alike = record {
+    alike = record { numbers = alike.numbers ∙ seen.alike.numbers; firsts = alike.firsts ∙ seen.alike.firsts };
+    known = λ f t low known.
+        let left = opened_marks now.rows.items from d f (domain_number before.numbers.items t) (rw (rows, alike.numbers, seen.alike.numbers) at known) in
+        let so_far = seen.known f t low (rw seen.alike.numbers left.0) in (
+          so_far.0,
+          λ e below. elim (cases_lt (domain_number before.numbers.items t) d) [
+            | inl less ↦ so_far.1 e less
+            | inr over ↦ absurd (left.1 e (omega (arith, below, over)))
+          ],
+        );
+  }
+
+  -- none was looked at yet
+  pub seen_none : IsSeen m p from group 0 before before
+  seen_none = record { alike = record { numbers = refl; firsts = refl }; known = λ f t low known. (known, λ e below. let apart : zero ≢ zero = omega (arith, below) in absurd (apart refl)) }
+
+  -- all were
+  pub seen_all : (place : Option ℕ) (d : ℕ) (now : Marks) → place ≡ Some from → length before.firsts.items ≤ d → IsSeen m p from group d before now → IsLookedAt m p place group before now
+  seen_all place d now at past seen = record {
+    alike = seen.alike;
+    known = λ f t low known.
+        let so_far = seen.known f t low known in
+        (so_far.0, λ on. so_far.1 (sym (eqb-true from f (rw at at on))) (omega (arith, is.within t low, past)));
+  }
 
 -- ---- a move
 
@@ -189,9 +274,12 @@ stays_where_not m p from to g off = false_from_ne_true _ (λ yes.
     absurd (false≢true (sym off ∙ once_stands (is_of from) g.places (and_parts moves once c.0).1)))
 
 -- what is known after a move, once it was looked at again for the group
-pub gone_marked : (m : ClusterMap) (p : PoolFacts) (gs after : List Group) (v : Move) (g : Group) (rows left : List (List Bool)) → g ≡ get_or gs v.group g → after ≡ set gs v.group (group_after g v) → v.group < length gs
-    → ((f t : ℕ) → t < length m.presences → is_shut left f t ≡ true → (is_shut rows f t ≡ true) × (stands f (group_after g v).places ≡ true → may_go m p f t (group_after g v) ≡ false)) → IsMarked m p gs rows → IsMarked m p after left
-gone_marked m p gs after v g rows left at is inside looked marked = λ f t low known. rw is (λ k d below. one f t low (looked f t low known).0 (looked f t low known).1 k d below)
+pub gone_marked : (m : ClusterMap) (p : PoolFacts) (gs after : List Group) (v : Move) (g : Group) (marks left : Marks) → g ≡ get_or gs v.group g → after ≡ set gs v.group (group_after g v) → v.group < length gs → NumberAlike left marks
+    → ((f t : ℕ) → t < length m.presences → is_shut left f t ≡ true → (is_shut marks f t ≡ true) × (stands f (group_after g v).places ≡ true → may_go m p f t (group_after g v) ≡ false)) → IsMarked m p gs marks → IsMarked m p after left
+gone_marked m p gs after v g marks left at is inside alike looked marked = record {
+  numbered = rw (alike.numbers, alike.firsts) marked.numbered;
+  known = λ f t low known. rw is (λ k d below. one f t low (looked f t low known).0 (looked f t low known).1 k d below);
+}
   where
     stays : (f t : ℕ) → (stands f (group_after g v).places ≡ true → may_go m p f t (group_after g v) ≡ false) → may_go m p f t (group_after g v) ≡ false
     stays f t on = elim (cases_Bool (stands f (group_after g v).places)) [
@@ -199,8 +287,8 @@ gone_marked m p gs after v g rows left at is inside looked marked = λ f t low k
       | inr off ↦ stays_where_not m p f t (group_after g v) off
     ]
 
-    one : (f t : ℕ) → t < length m.presences → is_shut rows f t ≡ true → (stands f (group_after g v).places ≡ true → may_go m p f t (group_after g v) ≡ false) → (k : ℕ) (d : Group) → k < length (set gs v.group (group_after g v)) → may_go m p f t (get_or (set gs v.group (group_after g v)) k d) ≡ false
+    one : (f t : ℕ) → t < length m.presences → is_shut marks f t ≡ true → (stands f (group_after g v).places ≡ true → may_go m p f t (group_after g v) ≡ false) → (k : ℕ) (d : Group) → k < length (set gs v.group (group_after g v)) → may_go m p f t (get_or (set gs v.group (group_after g v)) k d) ≡ false
     one f t low known on k d below = elim (cases_Bool (eqb k v.group)) [
       | inl here ↦ rw (eqb-true k v.group here, get_or-set_same gs v.group (group_after g v) d inside) (stays f t on)
-      | inr other ↦ rw (get_or-set_other gs v.group k (group_after g v) d (λ e. absurd (false≢true (sym other ∙ eq-eqb k v.group e)))) (marked f t low known k d (omega (arith, length-set gs v.group (group_after g v), below)))
+      | inr other ↦ rw (get_or-set_other gs v.group k (group_after g v) d (λ e. absurd (false≢true (sym other ∙ eq-eqb k v.group e)))) (marked.known f t low known k d (omega (arith, length-set gs v.group (group_after g v), below)))
     ]

@@ -13,7 +13,7 @@ use Rattle.balancer.specs.declared.moves.Move.{Move}
 use Rattle.balancer.specs.Shares.{is_candidate, total_weight, deviation, group_weight, Aim, AreSmall}
 use Rattle.balancer.specs.Greedy.{after_moves}
 use Rattle.balancer.specs.Boards.{IsGood, IsBoardOf, IsReached, group_at, group_after}
-use Rattle.balancer.proofs.DeviationsSmall.{word_small, times_small, sum_small, pool_within, pool_now, candidate_below, small_now, shown_now, long_deviations}
+use Rattle.balancer.proofs.DeviationsSmall.{word_small, times_small, sum_small, pool_within, pool_now, candidate_below, small_now, shown_now, long_now, long_deviations}
 use Rattle.balancer.proofs.AllowedByTests.{good_apart}
 use Rattle.balancer.proofs.SearchCovers.{good_ends, long_groups}
 use Rattle.balancer.proofs.MapAfterMove.{room_left}
@@ -83,6 +83,12 @@ module _ (m : ClusterMap) (p : PoolFacts) (cs : Aim) (moves : List Move) (v : Mo
   group_room g at =
       let long = ap (λ (x : Group). length x.pairs) (group_is g at) in
       omega (arith, long, room_left now p cs v good, (pool_within now p p.id reached.holds (pool_now m p moves there)).size_most)
+
+  pub ends_few : (v.from < 4096) × (v.to < 4096)
+  ends_few = (
+    omega (arith, candidate_below m p v.from ends.0, long_now m p moves, reached.holds.few),
+    omega (arith, candidate_below m p v.to ends.1, long_now m p moves, reached.holds.few),
+  )
 
   pub from_inside : v.from < length ds
   from_inside = omega (arith, candidate_below m p v.from ends.0, long_deviations m p cs moves gs ds board)

@@ -4,10 +4,11 @@ use Rattle.std.specs.List.Sorted.{IsPermutation}
 use Rattle.osdmap.specs.Maps.{ClusterMap}
 use Rattle.balancer.specs.declared.board.Board.{Board}
 use Rattle.balancer.specs.declared.frame.Frame.{Frame}
+use Rattle.balancer.specs.declared.marks.Marks.{Marks}
 use Rattle.balancer.specs.Shares.{is_candidate, candidate_osds, deviation, Aim, aim_of, least_gap}
 use Rattle.balancer.specs.Greedy.{after_moves, gap, beats, good_moves}
 use Rattle.balancer.specs.Boards.{IsOrder, is_wanted, IsGood, IsBest, IsBetter, CoversPair, CoversFrom}
-use Rattle.balancer.specs.Marks.{IsMarked}
+use Rattle.balancer.specs.Marks.{IsMarked, is_shut}
 use Rattle.balancer.specs.Widths.{bound_of, best_gap, IsBound, AreBounds}
 use Rattle.balancer.specs.declared.moves.Move.{Move}
 
@@ -40,7 +41,7 @@ abbrev pub takes_part : Board → ℕ → Bool
 takes_part b osd = is_candidate b.frame.map.now.map b.frame.pool osd
 
 -- what is marked holds of the groups as they stand
-abbrev pub IsMarkedOn : Board → List (List Bool) → Type 0
+abbrev pub IsMarkedOn : Board → Marks → Type 0
 IsMarkedOn b marks = IsMarked b.frame.map.now.map b.frame.pool b.groups.items marks
 
 -- each candidate once, in any order
@@ -56,12 +57,12 @@ abbrev pub IsOrderOf : Board → List (ℤ × ℕ) → Type 0
 IsOrderOf b order = IsOrder b.frame.map.now.map (reached b) b.frame.pool (aim_in b) b.frame.osds.items order
 
 -- what is known of how far moves go, once an OSD has become emptier: nothing more than before, and for candidates what
--- holds of moves to that OSD too
-abbrev pub AreWidened : Board → ℕ → List (Option ℤ) → List (Option ℤ) → Type 0
-AreWidened b emptier before now =
+-- holds of moves to that OSD too, where it is not known that no group may go there
+abbrev pub AreWidened : Board → ℕ → Marks → List (Option ℤ) → List (Option ℤ) → Type 0
+AreWidened b emptier marks before now =
     (from : ℕ) (bound : ℤ) → bound_of now from ≡ Some bound
     → ((old : ℤ) × (bound_of before from ≡ Some old) × (int_lt bound old ≡ false))
-    × (is_candidate b.frame.map.now.map b.frame.pool from ≡ true
+    × (is_candidate b.frame.map.now.map b.frame.pool from ≡ true → is_shut marks from emptier ≡ false
     → int_lt bound (gap (reached b) b.frame.pool (aim_in b) from emptier) ≡ false)
 
 -- ---- words of moves, by the map after the moves so far

@@ -1,6 +1,7 @@
 //! Groups as a plan keeps them.
 
 ghost use Rattle.std.specs.Prelude.{◌≡◌, ◌<◌, ◌≤◌, length, position, Some, IfOk};
+ghost use Rattle.buckets.specs.Limits.{max_devices};
 ghost use Rattle.osdmap.specs.Maps.{pool_at};
 ghost use Rattle.maptypes.specs.Sets.{replace, is_of};
 ghost use Rattle.pgtable.specs.Tables.{pool_table, IsTableOf};
@@ -112,19 +113,20 @@ fn place_of(places: &[Option<u32>], osd: u32) -> Option<usize>
 fn replace(places: &mut Short<Option<u32>>, pair: Pair)
     ensures { places.new ≡ replace pair places.old }
 {
-    if let Some(place) = place_of(places.as_slice(), pair.from) {
-        places.set(place, Some(pair.to));
+    if let Some(place) = place_of(places.as_slice(), u32::from(pair.from)) {
+        places.set(place, Some(u32::from(pair.to)));
     }
 }
 
 /// The group after a move of it.
 pub(crate) fn move_group(group: Group, step: Move) -> Group
-    requires { length group.pairs < 20 }
+    requires room { length group.pairs < 20 }
+    requires ends { (step.from < max_devices) × (step.to < max_devices) }
     ensures { result ≡ group_after group step }
 {
     let pair = Pair {
-        from: step.from,
-        to: step.to,
+        from: step.from as u16,
+        to: step.to as u16,
     };
     let mut group = group;
     replace(&mut group.places, pair);

@@ -14,7 +14,8 @@
 //!   for the best one
 //! - `running`: the moves, made one after another
 //! - `leaving`: whether a group may leave an OSD, wherever it would go
-//! - `marks`, `widths`: what is known of OSDs: between which no group may go, and how far moves from one go at most
+//! - `numbering`, `marks`, `widths`: the failure domains, numbered; to which of them no group may go from an OSD, and
+//!   how far moves from an OSD go at most, as far as it is known
 //! - `marking`: how marks come and go
 #![tactic(auto)]
 
@@ -29,6 +30,7 @@ mod load;
 mod marking;
 mod marks;
 pub mod moves;
+mod numbering;
 mod ordering;
 pub mod planned;
 mod plans;

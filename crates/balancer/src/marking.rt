@@ -6,12 +6,12 @@ use crate::leaving::may_leave;
 use crate::marks::Marks;
 
 impl Board<'_> {
-    ghost use Rattle.std.specs.Prelude.{◌≡◌, ◌<◌, ℕ, ◌==◌, length, true, false};
+    ghost use Rattle.std.specs.Prelude.{◌≡◌, ◌<◌, ℕ, ◌==◌, ◌||◌, length, true, false};
     ghost use Rattle.std.specs.List.{list_any};
     ghost use Rattle.maptypes.specs.Sets.{stands};
     ghost use Rattle.balancer.specs.Boards.{may_go};
     ghost use Rattle.balancer.specs.Leaving.{may_leave};
-    ghost use Rattle.balancer.specs.Marks.{is_shut, NoneGoes, IsLookedAt};
+    ghost use Rattle.balancer.specs.Marks.{is_shut, AreNumbered, NumberAlike, NoneGoes, IsLookedAt};
     ghost use Rattle.balancer.specs.Reached.{cluster, takes_part, IsMarkedOn};
 
     /// Whether some group may leave an OSD.
@@ -27,21 +27,6 @@ impl Board<'_> {
         false
     }
 
-    /// No group may go from one OSD to another: nor to any candidate in that one's failure domain.
-    fn mark_domain(&self, from: u32, to: u32, marks: &mut Marks)
-        requires apart { (to == from) ≡ false }
-        requires none { NoneGoes (cluster self.now) self.now.frame.pool self.now.groups.items from to }
-        requires marks { IsMarkedOn self.now marks.old }
-        ensures { IsMarkedOn self.now marks.new }
-    {
-        let domain = self.frame.domain(to);
-        for other in &self.frame.osds {
-            if self.frame.domain(*other) == domain {
-                marks.shut(from, *other);
-            }
-        }
-    }
-
     /// No group may leave an OSD: none goes from it to any candidate.
     #[cold]
     #[inline(never)]
@@ -50,61 +35,63 @@ impl Board<'_> {
         requires marks { IsMarkedOn self.now marks.old }
         ensures { IsMarkedOn self.now marks.new }
     {
-        for other in &self.frame.osds {
-            marks.shut(from, *other);
+        for domain in 0..marks.domain_count() {
+            marks.shut(from, domain);
         }
     }
 
-    /// No group may go from one OSD to another: nor to any candidate in that one's failure domain; and where none may
-    /// leave the first at all, to any candidate.
+    /// No group may go from one OSD to another: nor to any other OSD in that one's failure domain; and where none may
+    /// leave the first at all, to any OSD.
     pub(crate) fn mark_shut(&self, from: u32, to: u32, marks: &mut Marks)
         requires from { takes_part self.now from ≡ true }
+        requires to { takes_part self.now to ≡ true }
         requires apart { (to == from) ≡ false }
         requires none { NoneGoes (cluster self.now) self.now.frame.pool self.now.groups.items from to }
         requires marks { IsMarkedOn self.now marks.old }
         ensures { IsMarkedOn self.now marks.new }
     {
         if self.some_leaves(from) {
-            self.mark_domain(from, to, marks);
+            let domain = marks.number(to);
+            marks.shut(from, domain);
         } else {
             self.mark_all(from, marks);
         }
     }
 
-    /// Looks again at what is known to be shut from the OSD of a place, for a group on it: where that may go, it is
-    /// open.
+    /// Whether a group may go from one OSD to another, or that is the same.
+    fn may_come(&self, from: u32, to: u32, group: &Group) -> bool
+        ensures { result ≡ ((to == from) || may_go (cluster self.now) self.now.frame.pool from to group.now) }
+    {
+        to == from || self.frame.may_go(from, to, group)
+    }
+
+    /// Looks again at what is known to be shut from the OSD of a place, for a group on it: a failure domain to which
+    /// that may go is open.
     fn look_again(&self, place: Option<u32>, group: &Group, marks: &mut Marks)
+        requires { AreNumbered (cluster self.now) self.now.frame.pool (length (cluster self.now).presences)
+            marks.old.numbers.items marks.old.firsts.items }
         ensures { IsLookedAt (cluster self.now) self.now.frame.pool place group.now marks.old marks.new }
     {
         let Some(from) = place else {
             return;
         };
-        // The domain, if any so far, where the group was last found not to go.
-        let mut blocked = None;
-        for to in 0..self.frame.map.max_osd() {
-            if !marks.is_shut(from, to) {
+        for domain in 0..marks.domain_count() {
+            if !marks.is_shut_at(from, domain) {
                 continue;
             }
-            let domain = self.frame.domain(to);
-            // An OSD without a domain takes no group.
-            if domain.is_none() {
-                continue;
+            if self.may_come(from, marks.first(domain), group) {
+                marks.open(from, domain);
             }
-            if domain == blocked {
-                continue;
-            }
-            if to == from || self.frame.may_go(from, to, group) {
-                marks.open(from, to);
-                continue;
-            }
-            blocked = domain;
         }
     }
 
     /// Looks again at what is known to be shut from each OSD on which a group stands: where the group may go, it is
     /// open.
     pub(crate) fn look_again_at(&self, group: &Group, marks: &mut Marks)
-        ensures { (from to : ℕ) → to < length (cluster self.now).presences → is_shut marks.new from to ≡ true
+        requires { AreNumbered (cluster self.now) self.now.frame.pool (length (cluster self.now).presences)
+            marks.old.numbers.items marks.old.firsts.items }
+        ensures alike { NumberAlike marks.new marks.old }
+        ensures known { (from to : ℕ) → to < length (cluster self.now).presences → is_shut marks.new from to ≡ true
             → (is_shut marks.old from to ≡ true)
             × (stands from group.now.places ≡ true
             → may_go (cluster self.now) self.now.frame.pool from to group.now ≡ false) }

@@ -12,12 +12,16 @@ impl Board<'_> {
     ghost use Rattle.balancer.specs.Greedy.{good_moves, greedy, after_moves};
     ghost use Rattle.balancer.specs.Reached.{cluster, takes_part, IsMarkedOn, AreWidened, aim_in, AreOfOnePlan, IsGoodOn, AreBoundsOn};
 
-    /// Moves to an OSD that has become emptier may go further than was known.
-    fn widen(&self, emptier: u32, widths: &mut Widths)
+    /// Moves to an OSD that has become emptier may go further than was known, but for those from OSDs of which it is
+    /// known that no group may go there.
+    fn widen(&self, emptier: u32, marks: &Marks, widths: &mut Widths)
         requires { takes_part self.now emptier ≡ true }
-        ensures { AreWidened self.now emptier widths.old widths.new }
+        ensures { AreWidened self.now emptier marks.now widths.old widths.new }
     {
         for from in &self.frame.osds {
+            if marks.is_shut(*from, emptier) {
+                continue;
+            }
             widths.widen(*from, self.gap(*from, emptier));
         }
     }
@@ -34,11 +38,12 @@ impl Board<'_> {
         ensures widths { OnOk result (AreBoundsOn self.new widths.new) }
     {
         self.make(step)?;
-        self.widen(step.from, widths);
-        if let Some(group) = self.groups.get(step.group as usize) {
-            self.look_again_at(group, marks);
-            widths.forget(group.places.as_slice());
-        }
+        let Some(group) = self.groups.get(step.group as usize) else {
+            return Ok(());
+        };
+        self.look_again_at(group, marks);
+        widths.forget(group.places.as_slice());
+        self.widen(step.from, marks, widths);
         Ok(())
     }
 
@@ -52,7 +57,7 @@ impl Board<'_> {
             self.old.frame.pool (aim_in self.old) ≡ []) }
         ensures same { AreOfOnePlan self.new self.old }
     {
-        let mut marks = Marks::new(alloc, self.frame.map.max_osd())?;
+        let mut marks = Marks::new(alloc, &self.frame)?;
         let mut widths = Widths::new(alloc, self.frame.map.max_osd())?;
         let mut order = self.list_candidates(alloc)?;
         for _count in 0..limit {

@@ -23,7 +23,7 @@ impl Board<'_> {
     ghost use Rattle.std.specs.Prelude.{◌≡◌, ◌<◌, [], length, slice_index_or, position, true, IfSome, IfOk, MatchOption, OnOk};
     ghost use Rattle.balancer.specs.declared.group.Group.{Group};
     ghost use Rattle.balancer.specs.Boards.{may_go};
-    ghost use Rattle.balancer.specs.Reached.{cluster, takes_part, IsMarkedOn, AreAll, IsOrderOf, is_wanted_on, good_moves_on, IsGoodOn, IsBestOn, IsBetterOn, CoversPairOn, CoversFromOn, AreBoundsOn};
+    ghost use Rattle.balancer.specs.Reached.{cluster, takes_part, IsMarkedOn, AreAll, IsOrderOf, is_wanted_on, good_moves_on, IsGoodOn, IsBestOn, IsBetterOn, CoversPairOn, CoversFromOn, IsBoundOn, AreBoundsOn};
     ghost use Rattle.balancer.specs.Standing.{lowest_with};
 
     /// The lowest group so far, or a lower one that may go from one candidate to another beside it.
@@ -105,6 +105,36 @@ impl Board<'_> {
         best
     }
 
+    /// How far moves from a candidate go at most: as far as to the emptiest one of which it is not known that no group
+    /// may go there.
+    fn reach(&self, from: u32, order: &[(i128, u32)], marks: &Marks) -> i128
+        requires from { takes_part self.now from ≡ true }
+        requires order { IsOrderOf self.now order.now }
+        requires marks { IsMarkedOn self.now marks.now }
+        ensures { IsBoundOn self.now from result }
+    {
+        for (_, to) in order {
+            if !marks.is_shut(from, *to) {
+                return self.gap(from, *to);
+            }
+        }
+        self.frame.least_gap()
+    }
+
+    /// How far moves from a candidate go at most, as far as a search has shown that came to the best move so far.
+    fn bound(&self, from: u32, order: &[(i128, u32)], marks: &Marks, best: Option<Move>) -> i128
+        requires from { takes_part self.now from ≡ true }
+        requires order { IsOrderOf self.now order.now }
+        requires marks { IsMarkedOn self.now marks.now }
+        requires best { IfSome best (IsGoodOn self.now) }
+        requires covers { CoversFromOn self.now best from }
+        ensures { IsBoundOn self.now from result }
+    {
+        let far = self.reach(from, order, marks);
+        let found = self.best_gap(best);
+        if far < found { far } else { found }
+    }
+
     /// The best move between candidates, or none where no move is good; or `Memory` (30).
     pub(crate) fn find_best(
         &self,
@@ -127,7 +157,7 @@ impl Board<'_> {
                 continue;
             }
             best = self.find_better_from(*from, order, best, marks);
-            widths.set(*from, Some(self.best_gap(best)));
+            widths.set(*from, Some(self.bound(*from, order, marks, best)));
         }
         Ok(best)
     }

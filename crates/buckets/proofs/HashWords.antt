@@ -1,11 +1,11 @@
 -- a hash is a word
 use Rattle.std.proofs.Common.{ℕ, ◌/◌, ◌^◌, ◌<◌, bit_xor, arith}
 use Rattle.std.proofs.lemmas.Nat.{xor_of_32, shr_le, mod_below, pow_pos}
-use Rattle.rjenkins.specs.Jenkins.{turned, mixed, hash4_of, minus, shifted_left}
+use Rattle.rjenkins.specs.Jenkins.{third, mixed, hash4_of, minus, shifted_left}
 
--- the third word of a turn is one of 32 bits
-third-lt : (i j k : ℕ) (w : ℕ × ℕ × ℕ) → (turned i j k w).2 < 2 ^ 32
-unfolding turned
+-- the third word of a third of `mix` is one of 32 bits
+third-lt : (i j k : ℕ) (w : ℕ × ℕ × ℕ) → (third i j k w).2 < 2 ^ 32
+unfolding third
 third-lt i j k w =
     let a = bit_xor (minus (minus w.0 w.1) w.2) (w.2 / 2 ^ i) in
     let b = bit_xor (minus (minus w.1 w.2) a) (shifted_left a j) in

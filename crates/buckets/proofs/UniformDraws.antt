@@ -14,7 +14,7 @@ use Rattle.buckets.specs.Uniform.{places_drawn, uniform_place}
 swapped : List ℕ → ℕ → ℕ → List ℕ
 swapped xs p k = set (set xs p (get_or xs (p + k) 0)) (p + k) (get_or xs p 0)
 
--- the place drawn comes to stand at its turn
+-- the place drawn comes to stand behind those drawn before
 get_or-swapped : (xs : List ℕ) (p k : ℕ) → p + k < length xs → get_or (swapped xs p k) p 0 ≡ get_or xs (p + k) 0
 unfolding swapped
 get_or-swapped xs p zero h = grind (arith, get_or-set_at, length-set {A = ℕ})
@@ -53,10 +53,10 @@ drop-swapped xs p k h =
     ∙ ap (λ ys. drop 1 (set ys k a)) (sym (drop_more xs p 0 lt))
     ∙ ap (λ y. drop 1 (set (drop p xs) k y)) (sym head)
 
--- one turn: the place places_drawn joins the places places_drawn so far
-drawn-turn : (x id p n k : ℕ) (xs : List ℕ) → p + suc n ≡ length xs → k ≡ hash3_of x id p % suc n → k < suc n → take (p + 1) (swap xs p (p + k)) ++ places_drawn x id (p + 1) n (drop (p + 1) (swap xs p (p + k))) ≡ take p xs ++ places_drawn x id p (suc n) (drop p xs)
+-- one draw: the place drawn joins the places drawn so far
+drawn-once : (x id p n k : ℕ) (xs : List ℕ) → p + suc n ≡ length xs → k ≡ hash3_of x id p % suc n → k < suc n → take (p + 1) (swap xs p (p + k)) ++ places_drawn x id (p + 1) n (drop (p + 1) (swap xs p (p + k))) ≡ take p xs ++ places_drawn x id p (suc n) (drop p xs)
 unfolding places_drawn swapped
-drawn-turn x id p n k xs h e below =
+drawn-once x id p n k xs h e below =
     let inside : p + k < length xs = omega arith in
     let lt : p < length xs = omega arith in
     let is : swapped xs p k ≡ swap xs p (p + k) = swap_is xs p (p + k) 0 lt inside in
@@ -80,7 +80,7 @@ drawn_step x id p k xs ys all lt e is h =
     let below : k < suc n = omega arith in
     ap (λ m. take (p + 1) ys ++ places_drawn x id (p + 1) m (drop (p + 1) ys)) (ap (λ m. m - (p + 1)) same)
     ∙ ap (λ zs. take (p + 1) zs ++ places_drawn x id (p + 1) n (drop (p + 1) zs)) is
-    ∙ drawn-turn x id p n k xs whole e' below
+    ∙ drawn-once x id p n k xs whole e' below
     ∙ ap (λ m. take p xs ++ places_drawn x id p m (drop p xs)) (sym left)
     ∙ h
 

@@ -102,7 +102,7 @@ fn is_weightless(map: &OsdMap, osd: u32) -> bool
 fn acts(map: &OsdMap, raw: &UpSet, pair: &Pair) -> bool
     ensures { result ≡ acts map.now.map.weights raw.now pair.now }
 {
-    raw.has(pair.from) && !is_weightless(map, pair.to)
+    raw.has(u32::from(pair.from)) && !is_weightless(map, u32::from(pair.to))
 }
 
 /// Whether one of some pairs does.

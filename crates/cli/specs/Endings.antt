@@ -63,7 +63,7 @@ abbrev pub file_ending : ErrorKind → Bor (List ℕ) → Ending
 file_ending OutOfMemory path = Memory
 file_ending kind path = File path
 
--- a run that is served into memory, so that its output fails only for want of it
+-- a run that is served into memory, so that its output fails only where that is short
 abbrev pub fault_ending : Fault → Ending
 fault_ending (fault.Map refusal) = Map refusal
 fault_ending fault.Output = Memory

@@ -61,7 +61,7 @@ impl<'a> Ending<'a> {
         }
     }
 
-    /// Of a run that is served into memory, so that its output fails only for want of it.
+    /// Of a run that is served into memory, so that its output fails only where that is short.
     pub fn of_fault(fault: Fault) -> Ending<'a>
         ensures ending { result ≡ fault_ending fault }
         ensures status { 2 ≤ status_of result }

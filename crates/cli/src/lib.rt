@@ -5,7 +5,6 @@
 //! - `arguments`: the arguments, and what the parser finds for them
 //! - `files`: the files and streams that they name
 //! - `ending`, `telling`: how a run ends, and what it tells then
-//! - `tests`: the errors whose texts no clause has
 #![tactic(auto)]
 
 mod arguments;
@@ -13,8 +12,6 @@ mod choices;
 mod ending;
 mod files;
 mod telling;
-#[cfg(test)]
-mod tests;
 
 pub use arguments::{
     journal_option, line_error, path_in, session_options, stock_option, to_option,

@@ -23,8 +23,8 @@ pub fn end_run(rt: &impl Eprint, done: Result<(), Ending<'_>>) -> ExitCode
     }
 }
 
-/// Puts the answers of sessions that were served into memory to standard output: also where a live session has told that
-/// one of its files failed.
+/// Puts the answers of sessions that were served into memory to standard output: also where a live session has told
+/// that one of its files failed.
 ///
 /// # Errors
 ///

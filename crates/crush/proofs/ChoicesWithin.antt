@@ -17,7 +17,7 @@ use Rattle.crush.specs.Choosing.{Choosing}
 use Rattle.crush.specs.World.{World, is_out}
 use Rattle.crush.specs.Descent.{item_below, leaf_below}
 use Rattle.crush.specs.Firstn.{numbers_from, is_free, attempt_with, attempt_at, attempt_of, is_failed, replica_of, with_attempt, after_replica, firstn}
-use Rattle.crush.specs.Indep.{replica_number, replica_numbers, holds_item, is_open, position_with, position_at, position_of, after_turn, after_round, indep}
+use Rattle.crush.specs.Indep.{replica_number, replica_numbers, holds_item, is_open, position_with, position_at, position_of, after_position, after_round, indep}
 use Rattle.crush.proofs.Folds.{fold_keeps}
 use Rattle.crush.proofs.ItemTries.{attempt_by, chosen_by, first_of, position_by, filled_by}
 use Rattle.crush.proofs.DescentsWithin.{other, IsDevice, HasIn, AreAlike, descent_same, descent_in, descent_device, leaf_same, leaf_in}
@@ -215,16 +215,16 @@ unfolding indep
 indep_same R k vs start count s h =
     ap (λ (f : List Position → ℕ → List Position). fold f (replicate count Open) (range_with_len 0 k.tries.total)) (round_same R k vs start s h)
 
--- a turn writes nothing from outside the set
-turn_in : (R : ℤ → Type 0) (ps : List Position) (rep : ℕ) (p : Position) (undecided : Bool) → HoldsIn R p → All (HoldsIn R) ps → All (HoldsIn R) (cond undecided (set ps rep p) ps)
-turn_in R ps rep p true holds all = All-set (HoldsIn R) ps rep p holds all
-turn_in R ps rep p false holds all = all
+-- a step writes nothing from outside the set
+position_in : (R : ℤ → Type 0) (ps : List Position) (rep : ℕ) (p : Position) (undecided : Bool) → HoldsIn R p → All (HoldsIn R) ps → All (HoldsIn R) (cond undecided (set ps rep p) ps)
+position_in R ps rep p true holds all = All-set (HoldsIn R) ps rep p holds all
+position_in R ps rep p false holds all = all
 
 -- nor does a round
 round_in : (D : ℤ → Type 0) (k : Choosing) (start : Bucket) (positions : List Position) (round : ℕ) → LeadsIn D k start → All (HoldsIn D) positions → All (HoldsIn D) (after_round k start positions round)
 unfolding after_round
 round_in D k start positions round s all =
-    fold_keeps (All (HoldsIn D)) (after_turn k start round) (λ ps rep q. turn_in D ps rep _ (is_open (get_or ps rep Hole)) (position_of_in D k start round ps rep s) q) positions (range_with_len 0 (length positions)) all
+    fold_keeps (All (HoldsIn D)) (after_position k start round) (λ ps rep q. position_in D ps rep _ (is_open (get_or ps rep Hole)) (position_of_in D k start round ps rep s) q) positions (range_with_len 0 (length positions)) all
 
 -- so the leaves of all positions are in the set
 pub indep_in : (D : ℤ → Type 0) (k : Choosing) (start : Bucket) (count : ℕ) → LeadsIn D k start → All (HoldsIn D) (indep k start count)

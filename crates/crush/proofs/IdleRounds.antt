@@ -5,7 +5,7 @@ use Rattle.buckets.specs.declared.bucket.Bucket.{Bucket}
 use Rattle.crush.specs.declared.choose.Position.{Position}
 use Rattle.crush.specs.declared.choose.Position.TheVariants.{Hole}
 use Rattle.crush.specs.Choosing.{Choosing}
-use Rattle.crush.specs.Indep.{is_open, position_of, after_turn, after_round}
+use Rattle.crush.specs.Indep.{is_open, position_of, after_position, after_round}
 use Rattle.crush.proofs.Rounds.{fold_idle, fold_over}
 
 -- neither of two tests holds
@@ -24,7 +24,7 @@ none_open (p ∷ ps) (suc k) h = none_open ps k (both_false (is_open p) (list_an
 round_idle : (k : Choosing) (start : Bucket) (ps : List Position) (round : ℕ) → list_any is_open ps ≡ false → after_round k start ps round ≡ ps
 unfolding after_round
 round_idle k start ps round h =
-    fold_idle (after_turn k start round) ps (λ rep. ap (λ b. cond b (set ps rep (position_of k start round ps rep)) ps) (none_open ps rep h)) (range_with_len 0 (length ps))
+    fold_idle (after_position k start round) ps (λ rep. ap (λ b. cond b (set ps rep (position_of k start round ps rep)) ps) (none_open ps rep h)) (range_with_len 0 (length ps))
 
 -- the positions after some rounds are those after all where none is open
 pub rounds_over : (k : Choosing) (start : Bucket) (first ps : List Position) (round all : ℕ) → round ≤ all → ps ≡ fold (after_round k start) first (range_with_len 0 round) → list_any is_open ps ≡ false → ps ≡ fold (after_round k start) first (range_with_len 0 all)

@@ -28,35 +28,35 @@ tried w accepts b F r n None = first_leaf w accepts b F r n
 tried w accepts b F r n (Some p) = cond (accepts p.item) (Some p.item) (first_leaf w accepts b F r n)
 
 -- by what the first try comes to
-turned : (w : World) (accepts : ℤ → Bool) (b : Bucket) (F : ℕ → Bucket → ℕ) (r n : ℕ) (found : Option Picked) → item_below w (F r) 0 b ≡ found → first_leaf w accepts b F r (suc n) ≡ tried w accepts b F (r + 1) n found
+after_one : (w : World) (accepts : ℤ → Bool) (b : Bucket) (F : ℕ → Bucket → ℕ) (r n : ℕ) (found : Option Picked) → item_below w (F r) 0 b ≡ found → first_leaf w accepts b F r (suc n) ≡ tried w accepts b F (r + 1) n found
 unfolding tried
-turned w accepts b F r n None e = ap (λ o. find accepts (cons_option (option_map (λ p. p.item) o) (filter_map (device_below w b) (map F (range_with_len (r + 1) n))))) e
-turned w accepts b F r n (Some p) e = ap (λ o. find accepts (cons_option (option_map (λ p. p.item) o) (filter_map (device_below w b) (map F (range_with_len (r + 1) n))))) e
+after_one w accepts b F r n None e = ap (λ o. find accepts (cons_option (option_map (λ p. p.item) o) (filter_map (device_below w b) (map F (range_with_len (r + 1) n))))) e
+after_one w accepts b F r n (Some p) e = ap (λ o. find accepts (cons_option (option_map (λ p. p.item) o) (filter_map (device_below w b) (map F (range_with_len (r + 1) n))))) e
 
 -- the same, as the loop has it
-stepped : (w : World) (accepts : ℤ → Bool) (b : Bucket) (F : ℕ → Bucket → ℕ) (r n turn : ℕ) (found : Option Picked) → turn < n → found ≡ item_below w (F (r + turn)) 0 b → first_leaf w accepts b F (r + turn) (n - turn) ≡ tried w accepts b F (r + (turn + 1)) (n - (turn + 1)) found
-stepped w accepts b F r n turn found lt e =
-    let more : n - turn ≡ suc (n - (turn + 1)) = omega arith in
-    let next : (r + turn) + 1 ≡ r + (turn + 1) = omega arith in
-    ap (first_leaf w accepts b F (r + turn)) more ∙ turned w accepts b F (r + turn) (n - (turn + 1)) found (sym e) ∙ ap (λ m. tried w accepts b F m (n - (turn + 1)) found) next
+stepped : (w : World) (accepts : ℤ → Bool) (b : Bucket) (F : ℕ → Bucket → ℕ) (r n failures : ℕ) (found : Option Picked) → failures < n → found ≡ item_below w (F (r + failures)) 0 b → first_leaf w accepts b F (r + failures) (n - failures) ≡ tried w accepts b F (r + (failures + 1)) (n - (failures + 1)) found
+stepped w accepts b F r n failures found lt e =
+    let more : n - failures ≡ suc (n - (failures + 1)) = omega arith in
+    let next : (r + failures) + 1 ≡ r + (failures + 1) = omega arith in
+    ap (first_leaf w accepts b F (r + failures)) more ∙ after_one w accepts b F (r + failures) (n - (failures + 1)) found (sym e) ∙ ap (λ m. tried w accepts b F m (n - (failures + 1)) found) next
 
 -- the loop ends at an acceptable device
-pub leaf_found : (w : World) (accepts : ℤ → Bool) (b : Bucket) (F : ℕ → Bucket → ℕ) (r n turn : ℕ) (p : Picked) (shown : ℤ) (ok : Bool) → turn < n → Some p ≡ item_below w (F (r + turn)) 0 b → shown ≡ p.item → ok ≡ accepts shown → ok ≡ true → first_leaf w accepts b F (r + turn) (n - turn) ≡ Some shown
+pub leaf_found : (w : World) (accepts : ℤ → Bool) (b : Bucket) (F : ℕ → Bucket → ℕ) (r n failures : ℕ) (p : Picked) (shown : ℤ) (ok : Bool) → failures < n → Some p ≡ item_below w (F (r + failures)) 0 b → shown ≡ p.item → ok ≡ accepts shown → ok ≡ true → first_leaf w accepts b F (r + failures) (n - failures) ≡ Some shown
 unfolding tried
-leaf_found w accepts b F r n turn p shown ok lt e s a t =
-    stepped w accepts b F r n turn (Some p) lt e ∙ ap (λ d. cond (accepts d) (Some d) (first_leaf w accepts b F (r + (turn + 1)) (n - (turn + 1)))) (sym s) ∙ ap (λ v. cond v (Some shown) (first_leaf w accepts b F (r + (turn + 1)) (n - (turn + 1)))) (sym a ∙ t)
+leaf_found w accepts b F r n failures p shown ok lt e s a t =
+    stepped w accepts b F r n failures (Some p) lt e ∙ ap (λ d. cond (accepts d) (Some d) (first_leaf w accepts b F (r + (failures + 1)) (n - (failures + 1)))) (sym s) ∙ ap (λ v. cond v (Some shown) (first_leaf w accepts b F (r + (failures + 1)) (n - (failures + 1)))) (sym a ∙ t)
 
 -- the loop goes on after one that is not
-pub leaf_refused : (w : World) (accepts : ℤ → Bool) (b : Bucket) (F : ℕ → Bucket → ℕ) (r n turn : ℕ) (p : Picked) (shown : ℤ) (ok : Bool) → turn < n → Some p ≡ item_below w (F (r + turn)) 0 b → shown ≡ p.item → ok ≡ accepts shown → ok ≡ false → first_leaf w accepts b F (r + turn) (n - turn) ≡ first_leaf w accepts b F (r + (turn + 1)) (n - (turn + 1))
+pub leaf_refused : (w : World) (accepts : ℤ → Bool) (b : Bucket) (F : ℕ → Bucket → ℕ) (r n failures : ℕ) (p : Picked) (shown : ℤ) (ok : Bool) → failures < n → Some p ≡ item_below w (F (r + failures)) 0 b → shown ≡ p.item → ok ≡ accepts shown → ok ≡ false → first_leaf w accepts b F (r + failures) (n - failures) ≡ first_leaf w accepts b F (r + (failures + 1)) (n - (failures + 1))
 unfolding tried
-leaf_refused w accepts b F r n turn p shown ok lt e s a t =
-    stepped w accepts b F r n turn (Some p) lt e ∙ ap (λ d. cond (accepts d) (Some d) (first_leaf w accepts b F (r + (turn + 1)) (n - (turn + 1)))) (sym s) ∙ ap (λ v. cond v (Some shown) (first_leaf w accepts b F (r + (turn + 1)) (n - (turn + 1)))) (sym a ∙ t)
+leaf_refused w accepts b F r n failures p shown ok lt e s a t =
+    stepped w accepts b F r n failures (Some p) lt e ∙ ap (λ d. cond (accepts d) (Some d) (first_leaf w accepts b F (r + (failures + 1)) (n - (failures + 1)))) (sym s) ∙ ap (λ v. cond v (Some shown) (first_leaf w accepts b F (r + (failures + 1)) (n - (failures + 1)))) (sym a ∙ t)
 
 -- the loop goes on where a descent comes to none
-pub leaf_missing : (w : World) (accepts : ℤ → Bool) (b : Bucket) (F : ℕ → Bucket → ℕ) (r n turn : ℕ) → turn < n → None ≡ item_below w (F (r + turn)) 0 b → first_leaf w accepts b F (r + turn) (n - turn) ≡ first_leaf w accepts b F (r + (turn + 1)) (n - (turn + 1))
+pub leaf_missing : (w : World) (accepts : ℤ → Bool) (b : Bucket) (F : ℕ → Bucket → ℕ) (r n failures : ℕ) → failures < n → None ≡ item_below w (F (r + failures)) 0 b → first_leaf w accepts b F (r + failures) (n - failures) ≡ first_leaf w accepts b F (r + (failures + 1)) (n - (failures + 1))
 unfolding tried
-leaf_missing w accepts b F r n turn lt e = stepped w accepts b F r n turn None lt e
+leaf_missing w accepts b F r n failures lt e = stepped w accepts b F r n failures None lt e
 
 -- the loop ends where no try is left
-pub leaf_over : (w : World) (accepts : ℤ → Bool) (b : Bucket) (F : ℕ → Bucket → ℕ) (r n turn : ℕ) → n ≤ turn → first_leaf w accepts b F (r + turn) (n - turn) ≡ None
-leaf_over w accepts b F r n turn past = let none : n - turn ≡ zero = omega arith in ap (first_leaf w accepts b F (r + turn)) none
+pub leaf_over : (w : World) (accepts : ℤ → Bool) (b : Bucket) (F : ℕ → Bucket → ℕ) (r n failures : ℕ) → n ≤ failures → first_leaf w accepts b F (r + failures) (n - failures) ≡ None
+leaf_over w accepts b F r n failures past = let none : n - failures ≡ zero = omega arith in ap (first_leaf w accepts b F (r + failures)) none

@@ -11,7 +11,7 @@ range-more a (suc n) =
     let f : suc (n + 1) ≡ suc n + 1 = omega arith in
     ap (λ ys. a ∷ ys) (ap (λ x. range_with_len (a + 1) n ++ x ∷ []) e ∙ range-more (a + 1) n) ∙ ap (range_with_len a) f
 
--- one more turn
+-- one more round
 pub fold_range : {A : Type 0} (f : A → ℕ → A) (a : A) (n : ℕ) → f (fold f a (range_with_len 0 n)) n ≡ fold f a (range_with_len 0 (n + 1))
 fold_range f a n =
     let e : n ≡ 0 + n = omega arith in
@@ -30,13 +30,13 @@ pub fold_idle : {A B : Type 0} (f : B → A → B) (b : B) → ((x : A) → f b 
 fold_idle f b idle [] = refl
 fold_idle f b idle (x ∷ xs) = ap (λ c. fold f c xs) (idle x) ∙ fold_idle f b idle xs
 
--- what some turns come to is what all come to, where further turns change nothing
-pub fold_over : {B : Type 0} (f : B → ℕ → B) (first b : B) (turn all : ℕ) → turn ≤ all → b ≡ fold f first (range_with_len 0 turn) → ((x : ℕ) → f b x ≡ b) → b ≡ fold f first (range_with_len 0 all)
-fold_over f first b turn all within so_far idle =
-    let rest = range_with_len (0 + turn) (all - turn) in
-    let whole : turn + (all - turn) ≡ all = omega arith in
+-- what some rounds come to is what all come to, where further rounds change nothing
+pub fold_over : {B : Type 0} (f : B → ℕ → B) (first b : B) (round all : ℕ) → round ≤ all → b ≡ fold f first (range_with_len 0 round) → ((x : ℕ) → f b x ≡ b) → b ≡ fold f first (range_with_len 0 all)
+fold_over f first b round all within so_far idle =
+    let rest = range_with_len (0 + round) (all - round) in
+    let whole : round + (all - round) ≡ all = omega arith in
     sym (fold_idle f b idle rest)
     ∙ ap (λ c. fold f c rest) so_far
-    ∙ sym (fold-append f first (range_with_len 0 turn) rest)
-    ∙ ap (fold f first) (sym (range_append 0 turn (all - turn)))
+    ∙ sym (fold-append f first (range_with_len 0 round) rest)
+    ∙ ap (fold f first) (sym (range_append 0 round (all - round)))
     ∙ ap (λ n. fold f first (range_with_len 0 n)) whole

@@ -62,9 +62,9 @@ unfoldable pub position_of : Choosing → Bucket → ℕ → List Position → �
 position_of k start round positions rep =
     position_at k positions rep (item_below k.world (replica_number k.numrep rep round) k.choose.level start)
 
--- one turn of a round: an open position is tried, another is left alone
-abbrev pub after_turn : Choosing → Bucket → ℕ → List Position → ℕ → List Position
-after_turn k start round positions rep =
+-- one position of a round: an open position is tried, another is left alone
+abbrev pub after_position : Choosing → Bucket → ℕ → List Position → ℕ → List Position
+after_position k start round positions rep =
     if is_open (slice_index_or positions rep Hole)
     then slice_set positions rep (position_of k start round positions rep)
     else positions
@@ -72,7 +72,7 @@ after_turn k start round positions rep =
 -- a round takes the positions in order
 unfoldable pub after_round : Choosing → Bucket → List Position → ℕ → List Position
 after_round k start positions round =
-    fold (after_turn k start round) positions (range_with_len 0 (length positions))
+    fold (after_position k start round) positions (range_with_len 0 (length positions))
 
 -- the positions after all rounds, `count` of them
 unfoldable pub indep : Choosing → Bucket → ℕ → List Position

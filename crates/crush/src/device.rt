@@ -53,7 +53,7 @@ impl Placement<'_> {
         id: i32,
         start: &Start,
         draw: Draw,
-        turn: u8,
+        tries: u8,
     ) -> Option<Picked>
         requires input { start.now.x ≡ self.now.x }
         requires listed { bucket_at self.now.forest.now id ≡ Some start.now.bucket.now }
@@ -64,7 +64,7 @@ impl Placement<'_> {
             result ≡ item_below (world self.now) r 0 start.now.bucket.now }
         ensures picks { Remembers (world self.now) picks.new }
     {
-        if turn < picks.free_tries {
+        if tries < picks.free_tries {
             self.descend(start, 0, draw)
         } else {
             self.device_again(picks, id, start.bucket, draw)
@@ -79,7 +79,7 @@ impl Placement<'_> {
         id: i32,
         start: &Start,
         r: u32,
-        turn: u8,
+        tries: u8,
     ) -> Option<Picked>
         requires input { start.now.x ≡ self.now.x }
         requires listed { bucket_at self.now.forest.now id ≡ Some start.now.bucket.now }
@@ -93,6 +93,6 @@ impl Placement<'_> {
             base: r,
             round: 0,
         };
-        self.device(picks, id, start, draw, turn)
+        self.device(picks, id, start, draw, tries)
     }
 }

@@ -58,10 +58,10 @@ impl Chooser<'_> {
     {
         let bucket = self.placement.forest.bucket(item)?;
         let below = Start::new(bucket, self.placement.x, 1);
-        for turn in 0..self.tries.leaf {
+        for failures in 0..self.tries.leaf {
             let device = self
                 .placement
-                .device_at(picks, item, &below, r + u32::from(turn), turn);
+                .device_at(picks, item, &below, r + u32::from(failures), failures);
             if let Some(picked) = device {
                 if self.is_free(chosen, picked.item) {
                     return Some(picked.item);

@@ -34,7 +34,7 @@ impl Chooser<'_> {
     ghost use Rattle.crush.specs.Placed.{world, choosing};
     ghost use Rattle.crush.specs.Remembered.{Remembers};
     ghost use Rattle.crush.specs.Descent.{leaf_below};
-    ghost use Rattle.crush.specs.Indep.{is_in, replica_numbers, position_with, position_of, after_turn, after_round, indep};
+    ghost use Rattle.crush.specs.Indep.{is_in, replica_numbers, position_with, position_of, after_position, after_round, indep};
 
     /// The leaf below an item chosen for a position.
     fn position_leaf(&self, picks: &mut Picks, item: i32, base: u32) -> Option<i32>
@@ -117,7 +117,13 @@ impl Chooser<'_> {
     }
 
     /// Tries a position, if it is open.
-    fn take_turn(&self, picks: &mut Picks, start: &Start, positions: &mut [Position], draw: Draw)
+    fn take_position(
+        &self,
+        picks: &mut Picks,
+        start: &Start,
+        positions: &mut [Position],
+        draw: Draw,
+    )
         requires input { start.now.x ≡ self.now.placement.x }
         requires own { draw.numrep ≡ self.now.numrep }
         requires some { 0 < draw.numrep }
@@ -125,7 +131,7 @@ impl Chooser<'_> {
         requires place { draw.base < length positions.old }
         requires picks { Remembers (world self.now.placement) picks.old }
         ensures value { positions.new
-            ≡ after_turn (choosing self.now) start.now.bucket.now draw.round positions.old draw.base }
+            ≡ after_position (choosing self.now) start.now.bucket.now draw.round positions.old draw.base }
         ensures picks { Remembers (world self.now.placement) picks.new }
     {
         let place = draw.base as usize;
@@ -151,7 +157,7 @@ impl Chooser<'_> {
                 base: rep as u32,
                 round,
             };
-            self.take_turn(picks, start, positions, draw);
+            self.take_position(picks, start, positions, draw);
         }
     }
 

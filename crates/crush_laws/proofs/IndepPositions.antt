@@ -16,7 +16,7 @@ use Rattle.crush.specs.Choosing.{Choosing}
 use Rattle.crush.specs.World.{is_out}
 use Rattle.crush.specs.Descent.{leaf_below, item_below}
 use Rattle.crush.proofs.Rounds.{range_append}
-use Rattle.crush.specs.Indep.{replica_number, replica_numbers, holds_item, is_open, position_with, position_at, position_of, after_turn, after_round, indep}
+use Rattle.crush.specs.Indep.{replica_number, replica_numbers, holds_item, is_open, position_with, position_at, position_of, after_position, after_round, indep}
 use Rattle.crush_laws.specs.Choices.{takes_devices, AreApart, HoldsNoneOut, ArePositions, in_rounds, IndepIsPositions, IndepKeepsPositions, IndepLooksBack}
 use Rattle.crush.proofs.Folds.{fold_keeps}
 use Rattle.crush.proofs.ItemTries.{position_by, filled_by}
@@ -108,10 +108,10 @@ pairs_set positions rep p all apart i j d lt within =
       ]
     ]
 
--- a turn keeps the positions
-positions_turn : (k : Choosing) (start : Bucket) (round count : ℕ) (positions : List Position) (rep : ℕ) (undecided : Bool) → ArePositions k count positions → ArePositions k count (cond undecided (set positions rep (position_of k start round positions rep)) positions)
-positions_turn k start round count positions rep false s = s
-positions_turn k start round count positions rep true s =
+-- a position tried keeps the number of positions
+length_kept : (k : Choosing) (start : Bucket) (round count : ℕ) (positions : List Position) (rep : ℕ) (undecided : Bool) → ArePositions k count positions → ArePositions k count (cond undecided (set positions rep (position_of k start round positions rep)) positions)
+length_kept k start round count positions rep false s = s
+length_kept k start round count positions rep true s =
     let p = position_of k start round positions rep in
     let fills = fills_of k start round positions rep in
     record {
@@ -125,7 +125,7 @@ positions_round : (k : Choosing) (start : Bucket) (count : ℕ) (positions : Lis
 unfolding after_round
 positions_round k start count positions round s =
     let P : List Position → Type 0 = ArePositions k count in
-    fold_keeps P (after_turn k start round) (λ ps rep q. positions_turn k start round count ps rep (is_open (get_or ps rep Hole)) q) positions (range_with_len 0 (length positions)) s
+    fold_keeps P (after_position k start round) (λ ps rep q. length_kept k start round count ps rep (is_open (get_or ps rep Hole)) q) positions (range_with_len 0 (length positions)) s
 
 -- open positions hold nothing twice
 none_yet : (k : Choosing) (count : ℕ) → ArePositions k count (replicate count Open)
@@ -148,12 +148,12 @@ indep_is_positions k start count =
 record StaysIn (before after : List Position) : Type 0 where
   decided : (i : ℕ) → is_open (get_or before i Hole) ≡ false → get_or after i Hole ≡ get_or before i Hole
 
--- a turn leaves what is decided
-stays_turn : (positions : List Position) (rep : ℕ) (p : Position) (undecided : Bool) → is_open (get_or positions rep Hole) ≡ undecided → StaysIn positions (cond undecided (set positions rep p) positions)
-stays_turn positions rep p false e = record { decided = λ i h. refl }
-stays_turn positions rep p true e = record { decided = λ i h. get_or-set_other positions rep i p Hole (λ same. false≢true (sym h ∙ ap (λ m. is_open (get_or positions m Hole)) same ∙ e)) }
+-- a position tried leaves what is decided
+decided_stays : (positions : List Position) (rep : ℕ) (p : Position) (undecided : Bool) → is_open (get_or positions rep Hole) ≡ undecided → StaysIn positions (cond undecided (set positions rep p) positions)
+decided_stays positions rep p false e = record { decided = λ i h. refl }
+decided_stays positions rep p true e = record { decided = λ i h. get_or-set_other positions rep i p Hole (λ same. false≢true (sym h ∙ ap (λ m. is_open (get_or positions m Hole)) same ∙ e)) }
 
--- so do turns one after another
+-- so do positions one after another
 stays_fold : {A : Type 0} (f : List Position → A → List Position) → ((ps : List Position) (x : A) → StaysIn ps (f ps x)) → (ps : List Position) (xs : List A) → StaysIn ps (fold f ps xs)
 stays_fold f step ps [] = record { decided = λ i h. refl }
 stays_fold f step ps (x ∷ xs) =
@@ -165,7 +165,7 @@ stays_fold f step ps (x ∷ xs) =
 stays_round : (k : Choosing) (start : Bucket) (positions : List Position) (round : ℕ) → StaysIn positions (after_round k start positions round)
 unfolding after_round
 stays_round k start positions round =
-    stays_fold (after_turn k start round) (λ ps rep. stays_turn ps rep (position_of k start round ps rep) (is_open (get_or ps rep Hole)) refl) positions (range_with_len 0 (length positions))
+    stays_fold (after_position k start round) (λ ps rep. decided_stays ps rep (position_of k start round ps rep) (is_open (get_or ps rep Hole)) refl) positions (range_with_len 0 (length positions))
 
 -- how many rounds there are is nothing to a round
 same_round : (k : Choosing) (m n : ℕ) (start : Bucket) → after_round (in_rounds k m) start ≡ after_round (in_rounds k n) start
@@ -186,24 +186,24 @@ indep_keeps_positions k start rounds more count place =
     let stays = stays_fold (F rounds) (stays_round (in_rounds k rounds) start) first (range_with_len (0 + rounds) more) in
     λ h. ap (λ ps. get_or ps place Hole) whole ∙ stays.decided place h
 
--- a turn leaves every other position alone
-turn_apart : (ps : List Position) (rep place : ℕ) (p : Position) (undecided : Bool) → place ≢ rep → get_or (cond undecided (set ps rep p) ps) place Hole ≡ get_or ps place Hole
-turn_apart ps rep place p true ne = get_or-set_other ps rep place p Hole ne
-turn_apart ps rep place p false ne = refl
+-- a position tried leaves every other alone
+others_stay : (ps : List Position) (rep place : ℕ) (p : Position) (undecided : Bool) → place ≢ rep → get_or (cond undecided (set ps rep p) ps) place Hole ≡ get_or ps place Hole
+others_stay ps rep place p true ne = get_or-set_other ps rep place p Hole ne
+others_stay ps rep place p false ne = refl
 
--- so do the turns of later positions
-later_turns : (k : Choosing) (start : Bucket) (round : ℕ) (ps : List Position) (place a m : ℕ) → place < a → get_or (fold (after_turn k start round) ps (range_with_len a m)) place Hole ≡ get_or ps place Hole
-later_turns k start round ps place a zero before = refl
-later_turns k start round ps place a (suc m) before =
-    let next = after_turn k start round ps a in
-    later_turns k start round next place (a + 1) m (omega arith)
-    ∙ turn_apart ps a place (position_of k start round ps a) (is_open (get_or ps a Hole)) (λ same. omega arith)
+-- so do all later positions
+later_positions : (k : Choosing) (start : Bucket) (round : ℕ) (ps : List Position) (place a m : ℕ) → place < a → get_or (fold (after_position k start round) ps (range_with_len a m)) place Hole ≡ get_or ps place Hole
+later_positions k start round ps place a zero before = refl
+later_positions k start round ps place a (suc m) before =
+    let next = after_position k start round ps a in
+    later_positions k start round next place (a + 1) m (omega arith)
+    ∙ others_stay ps a place (position_of k start round ps a) (is_open (get_or ps a Hole)) (λ same. omega arith)
 
--- so a round leaves a position as its own turn does
+-- so a round leaves a position as its own try does
 pub indep_looks_back : IndepLooksBack
 unfolding after_round
 indep_looks_back k start round positions place within =
-    let f = after_turn k start round in
+    let f = after_position k start round in
     let n = length positions in
     let rest = n - (place + 1) in
     let whole : (place + 1) + rest ≡ n = omega arith in
@@ -211,4 +211,4 @@ indep_looks_back k start round positions place within =
     ap (λ m. get_or (fold f positions (range_with_len 0 m)) place Hole) (sym whole)
     ∙ ap (λ xs. get_or (fold f positions xs) place Hole) (range_append 0 (place + 1) rest)
     ∙ ap (λ ps. get_or ps place Hole) (fold-append f positions (range_with_len 0 (place + 1)) (range_with_len (0 + (place + 1)) rest))
-    ∙ later_turns k start round first place (0 + (place + 1)) rest (omega arith)
+    ∙ later_positions k start round first place (0 + (place + 1)) rest (omega arith)

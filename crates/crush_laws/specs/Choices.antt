@@ -9,7 +9,7 @@ use Rattle.crush.specs.declared.step.Choose.{Choose}
 use Rattle.crush.specs.Choosing.{Choosing}
 use Rattle.crush.specs.World.{World, is_out}
 use Rattle.crush.specs.Firstn.{firstn}
-use Rattle.crush.specs.Indep.{is_open, after_turn, after_round, indep}
+use Rattle.crush.specs.Indep.{is_open, after_position, after_round, indep}
 
 -- a step that takes devices: leaves, or items of type 0
 abbrev pub takes_devices : Choose → Bool
@@ -57,13 +57,13 @@ IndepKeepsPositions = (k : Choosing) (start : Bucket) (rounds more count place :
     is_open (slice_index_or before place Hole) ≡ false →
     slice_index_or after place Hole ≡ slice_index_or before place Hole
 
--- the positions after the turns of the first so many in a round
-abbrev pub after_turns : Choosing → Bucket → ℕ → List Position → ℕ → List Position
-after_turns k start round positions n = fold (after_turn k start round) positions (range_with_len 0 n)
+-- the positions after the first so many of them in a round
+abbrev pub after_positions : Choosing → Bucket → ℕ → List Position → ℕ → List Position
+after_positions k start round positions n = fold (after_position k start round) positions (range_with_len 0 n)
 
--- what a round makes of a position is what its own turn makes of it: it depends on no later turn
+-- what a round makes of a position is what its own try makes of it: it depends on no later position
 abbrev pub IndepLooksBack : Type 0
 IndepLooksBack = (k : Choosing) (start : Bucket) (round : ℕ) (positions : List Position) (place : ℕ) →
     place < length positions →
     slice_index_or (after_round k start positions round) place Hole
-    ≡ slice_index_or (after_turns k start round positions (place + 1)) place Hole
+    ≡ slice_index_or (after_positions k start round positions (place + 1)) place Hole

@@ -86,7 +86,7 @@ pub fn indep_keeps_positions()
     ensures { IndepKeepsPositions }
 {}
 
-/// What a round makes of a position is decided at its turn: the turns of later positions change nothing.
+/// What a round makes of a position is decided when it is tried: later positions change nothing.
 pub fn indep_looks_back()
     ensures { IndepLooksBack }
 {}

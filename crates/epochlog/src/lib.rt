@@ -6,14 +6,11 @@
 //! - `row`: a row of sealed epochs, and its limits
 //! - `pass`: what a reader has seen of a row
 //! - `error`: why an incremental is not sealed
-//! - `tests`: a row and its passes by an example
 #![tactic(auto)]
 
 mod error;
 mod pass;
 mod row;
-#[cfg(test)]
-mod tests;
 
 pub use error::NotSealed;
 pub use pass::Pass;

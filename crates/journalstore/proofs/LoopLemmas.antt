@@ -1,4 +1,4 @@
--- The loop that takes in what rows show.
+-- The loops that take in what rows show, and that compare texts.
 use Rattle.std.proofs.Common.{◌≡◌, ℕ, ◌+◌, ◌<◌, ◌≤◌, List, [], ◌∷◌, ◌++◌, map, take, length, slice_index_or, All, refl, sym, ap, subst, ◌∙◌, arith}
 use Rattle.std.proofs.lemmas.List.{map-append, take_more}
 use Rattle.std.proofs.lemmas.List.Elements.{All-nil, All-push, All-weaker, recursion_from_All}
@@ -34,3 +34,15 @@ read_more rows done texts least row text low at say is high so =
       below = subst (All (λ (e : Entry). e.0 < text.epoch + 1)) (sym texts_are) (All-push (λ (e : Entry). e.0 < text.epoch + 1) (map entry_read texts) (entry_read text)
           (All-weaker (λ (e : Entry). e.0 < text.epoch) (λ (e : Entry). e.0 < text.epoch + 1) (λ e under. omega (arith, under)) (map entry_read texts) below) (omega arith));
     }
+
+-- as many of the texts say the same as of the others
+abbrev pub AreSameTo : List StoredText → List StoredText → ℕ → Type 0
+AreSameTo texts others done = map entry_read (take done texts) ≡ map entry_read (take done others)
+
+-- one more of them does
+pub same_more : (texts others : List StoredText) (done : ℕ) (text other : StoredText) → done < length texts → done < length others → text ≡ slice_index_or texts done text → other ≡ slice_index_or others done other
+    → entry_read text ≡ entry_read other → AreSameTo texts others done → AreSameTo texts others (done + 1)
+same_more texts others done text other low also is second same so =
+    let behind : (ts : List StoredText) (t : StoredText) → done < length ts → t ≡ slice_index_or ts done t → map entry_read (take (done + 1) ts) ≡ map entry_read (take done ts) ++ entry_read t ∷ [] = λ ts t within at.
+    ap (map entry_read) (take_more ts done t within ∙ ap (λ (x : StoredText). take done ts ++ x ∷ []) (sym at)) ∙ map-append entry_read (take done ts) (t ∷ []) in
+    behind texts text low is ∙ ap (λ (es : List Entry). es ++ entry_read text ∷ []) so ∙ ap (λ (e : Entry). map entry_read (take done others) ++ e ∷ []) same ∙ sym (behind others other also second)

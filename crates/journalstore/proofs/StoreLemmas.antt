@@ -7,7 +7,7 @@ use Rattle.sqlite.specs.Tree.{Trees}
 use Rattle.sqlite.specs.Effect.{Database}
 use Rattle.sqlite.specs.State.{State, HasCleanDisk, Survives, Executes, CommitsBy, IsUnchanged}
 use Rattle.journalstore.specs.Tables.{insert_text}
-use Rattle.journalstore.specs.Texts.{Texts, begun_with, with_change, IsAfter, StandsFor}
+use Rattle.journalstore.specs.Texts.{Entry, Texts, begun_with, cut_to, with_change, IsAfter, StandsFor}
 use Rattle.journalstore.specs.declared.reading.StoredText.{StoredText}
 use Rattle.journalstore.specs.declared.reading.StoredTexts.{StoredTexts}
 use Rattle.journalstore.specs.Read.{entry_read, texts_read}
@@ -68,6 +68,11 @@ leaves_still old new Kind survives leaves clean db may = elim (survives.crash cl
 -- what was read is what a store begins with
 pub begun_read : (t : StoredTexts) (epoch : ℕ) (text : List ℕ) → entry_read t.first ≡ (epoch, text) → t.changes.items ≡ [] → texts_read t ≡ begun_with epoch text
 begun_read t epoch text first none = λ i. record { first = first i; changes = map entry_read (none i) }
+
+-- what was read is what a checkpoint leaves
+pub cut_read : (t : StoredTexts) (epoch : ℕ) (text : List ℕ) (changes : List Entry) → entry_read t.first ≡ (epoch, text) → map entry_read t.changes.items ≡ changes
+    → texts_read t ≡ cut_to epoch text changes
+cut_read t epoch text changes first same = λ i. record { first = first i; changes = same i }
 
 -- texts that are read as no entries are none
 none_read : (ts : List StoredText) → map entry_read ts ≡ [] → ts ≡ []

@@ -98,8 +98,8 @@ fn put(rt: &HostRuntime, part: &str, to: &str) -> Result<(), StoreError> {
 ///
 /// # Errors
 ///
-/// `Taken` where there is a file of this name already, and `LogAlone` where there is a log beside it; `Moving` where the
-/// store was written faster than it was copied; else those of `open`. Then no file of this name is made.
+/// `Taken` where there is a file of this name already, and `LogAlone` where there is a log beside it; `Moving` where
+/// the store was written faster than it was copied; else those of `open`. Then no file of this name is made.
 pub fn copy_store<W: Start>(
     rt: &HostRuntime,
     path: &str,

@@ -65,8 +65,8 @@ fn make_file<W: Start>(
 }
 
 /// Makes a store with its first map, in one transaction, where there is no file, an empty one, or a database with no
-/// table, and opens it as `open` does. Its file is then the store by itself. `starts` stands for what the files held, and
-/// for what they hold as they are opened.
+/// table, and opens it as `open` does. Its file is then the store by itself. `starts` stands for what the files held,
+/// and for what they hold as they are opened.
 ///
 /// # Errors
 ///

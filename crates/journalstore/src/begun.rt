@@ -1,7 +1,7 @@
-//! Whether texts are those that a store begins with.
+//! Whether texts are those that a store begins with, or those that a checkpoint is to leave.
 
-ghost use Rattle.std.specs.Prelude.{◌≡◌, ◌↔◌, true};
-ghost use Rattle.journalstore.specs.Texts.{begun_with};
+ghost use Rattle.std.specs.Prelude.{◌≡◌, ◌↔◌, true, map};
+ghost use Rattle.journalstore.specs.Texts.{begun_with, cut_to};
 ghost use Rattle.journalstore.specs.Read.{entry_read, texts_read};
 
 use crate::reading::{StoredText, StoredTexts};
@@ -19,4 +19,34 @@ pub fn is_begun(texts: &StoredTexts, epoch: u64, text: &str) -> bool
     ensures { (result ≡ true) ↔ (texts_read texts.now ≡ begun_with epoch text.now) }
 {
     says(&texts.first, epoch, text) && texts.changes.is_empty()
+}
+
+/// Whether a text says the same as another.
+fn is_same(text: &StoredText, other: &StoredText) -> bool
+    ensures { result ≡ true → entry_read text.now ≡ entry_read other.now }
+{
+    says(text, other.epoch, other.text.as_str())
+}
+
+/// Whether texts say the same as others, one after the other.
+fn are_same(texts: &[StoredText], others: &[StoredText]) -> bool
+    ensures { result ≡ true → map entry_read texts.now ≡ map entry_read others.now }
+{
+    if texts.len() != others.len() {
+        return false;
+    }
+    for at in 0..texts.len() {
+        if !is_same(&texts[at], &others[at]) {
+            return false;
+        }
+    }
+    true
+}
+
+/// Whether this is what a checkpoint is to leave: a first map of this epoch and text, and these changes.
+#[tactic(auto, using(crate::proofs::StoreLemmas::cut_read))]
+pub(crate) fn is_cut(texts: &StoredTexts, epoch: u64, text: &str, kept: &[StoredText]) -> bool
+    ensures { result ≡ true → texts_read texts.now ≡ cut_to epoch text.now (map entry_read kept.now) }
+{
+    says(&texts.first, epoch, text) && are_same(texts.changes.as_slice(), kept)
 }

@@ -1,16 +1,16 @@
-//! How a new first map takes the place of the old one and of the changes up to it.
+//! How a new first map takes the place of the old one and of the changes up to it, and the later ones are kept.
 
 ghost use Rattle.std.specs.Prelude.{◌≡◌, ◌⊎◌, ◌<◌, ◌≤◌, ◌^◌, [], ◌∷◌, map, Err, IfOk, IfErr, OnOk, OnErr};
 ghost use Rattle.sqlite.specs.State.{HasCleanDisk, IsUnchanged, KeepsCommit, Survives};
 ghost use Rattle.sqlite.specs.Held.{state};
 ghost use Rattle.journalstore.specs.declared.error.StoreError.TheVariants.{EpochTooLarge};
 ghost use Rattle.journalstore.specs.Faults.{IsOfFile};
-ghost use Rattle.journalstore.specs.Texts.{AreEntries, StandsFor, begun_with};
+ghost use Rattle.journalstore.specs.Texts.{AreEntries, StandsFor, cut_to};
 ghost use Rattle.journalstore.specs.Read.{entry_read, texts_read};
 ghost use Rattle.journalstore.specs.Stores.{IsInWriting, IsWritten, HoldsIn, LeavesIn, KeepsIn};
 
 use crate::append::LAST_EPOCH;
-use crate::begun::is_begun;
+use crate::begun::is_cut;
 use crate::error::StoreError;
 use crate::reading::{StoredText, StoredTexts, only, texts_in};
 use sqlite::{Alter, Connection, Error, Transaction, params};
@@ -112,11 +112,12 @@ fn write<S: Alter>(
     tx: &mut Transaction<'_, S>,
     epoch: u64,
     text: &str,
+    kept: &[StoredText],
 ) -> Result<(), StoreError>
     requires { epoch < 2 ^ 63 }
     ensures same_reference { tx.new.conn.ghost_name ≡ tx.old.conn.ghost_name }
     ensures written { IsInWriting (state S.Store tx.old.conn.now) → HasCleanDisk (state S.Store tx.new.conn.now)
-        → OnOk result (IsWritten (state S.Store tx.new.conn.now) (begun_with epoch text.now)) }
+        → OnOk result (IsWritten (state S.Store tx.new.conn.now) (cut_to epoch text.now (map entry_read kept.now))) }
     ensures keeps { IsInWriting (state S.Store tx.old.conn.now) → HasCleanDisk (state S.Store tx.new.conn.now)
         → KeepsCommit (state S.Store tx.old.conn.now) (state S.Store tx.new.conn.now) }
     ensures named { IfErr result IsOfFile }
@@ -125,7 +126,7 @@ fn write<S: Alter>(
     clear(tx, epoch)?;
     add_map(tx, epoch, text)?;
     let texts = read_inside(alloc, tx)?;
-    if is_begun(&texts, epoch, text) {
+    if is_cut(&texts, epoch, text, kept) {
         Ok(())
     } else {
         Err(StoreError::EpochTaken)
@@ -138,12 +139,13 @@ pub(crate) fn checkpoint<S: Alter>(
     conn: &mut Connection<S>,
     epoch: u64,
     text: &str,
+    kept: &[StoredText],
 ) -> Result<(), StoreError>
     ensures cut { OnOk result ((t : _) → HoldsIn S.Store conn.old t
-        → HoldsIn S.Store conn.new (begun_with epoch text.now)) }
+        → HoldsIn S.Store conn.new (cut_to epoch text.now (map entry_read kept.now))) }
     ensures kept { OnErr result ((t : _) → HoldsIn S.Store conn.old t → KeepsIn S.Store conn.new t) }
     ensures crash { (t : _) → HoldsIn S.Store conn.old t → LeavesIn S.Store conn.new
-        (λ db. StandsFor db t ⊎ StandsFor db (begun_with epoch text.now)) }
+        (λ db. StandsFor db t ⊎ StandsFor db (cut_to epoch text.now (map entry_read kept.now))) }
     ensures clean { HasCleanDisk (state S.Store conn.new) → HasCleanDisk (state S.Store conn.old) }
     ensures only { IfErr result (λ e. e ≡ EpochTooLarge → 2 ^ 63 ≤ epoch) }
     ensures refused { 2 ^ 63 ≤ epoch → (result ≡ Err EpochTooLarge) × (conn.new ≡ conn.old) }
@@ -155,7 +157,7 @@ pub(crate) fn checkpoint<S: Alter>(
         return Err(StoreError::Damaged);
     }
     let mut tx = conn.transaction();
-    write(alloc, &mut tx, epoch, text)?;
+    write(alloc, &mut tx, epoch, text, kept)?;
     tx.commit()?;
     Ok(())
 }

@@ -24,7 +24,7 @@ pub enum StoreError {
     InUse,
     /// The file is no database, or not one of a store.
     Foreign,
-    /// The file is damaged.
+    /// The file is damaged, or another program has written it, whose pages have no sums.
     Damaged,
     /// The file has a first map already.
     Begun,
@@ -59,7 +59,7 @@ impl fmt::Display for StoreError {
             StoreError::Unopened => "the file cannot be opened",
             StoreError::InUse => "the store is in use",
             StoreError::Foreign => "the file is not a store",
-            StoreError::Damaged => "the store is damaged",
+            StoreError::Damaged => "the store is damaged, or another program has written it",
             StoreError::Begun => "the store has a first map already",
             StoreError::EpochTooLarge => "the epoch is above 2^63 - 1",
             StoreError::EpochTaken => "the store has a change with this epoch or a later one",

@@ -8,7 +8,6 @@
 //! - `shape`: whether a database has the tables of a store
 //! - `exclusive`: a value that only its owner reaches
 //! - `error`: why a store does not do what it is asked
-//! - `tests`: a store that is begun, changed, cut and opened again, by an example
 #![tactic(auto)]
 
 mod append;
@@ -23,8 +22,6 @@ mod opening;
 mod reading;
 mod shape;
 mod store;
-#[cfg(test)]
-mod tests;
 
 pub use append::LAST_EPOCH;
 pub use backup::copy_store;

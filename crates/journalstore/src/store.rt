@@ -1,16 +1,18 @@
 //! The store of a journal's texts.
 
-ghost use Rattle.std.specs.Prelude.{◌≡◌, ◌⊎◌, ◌≤◌, ◌^◌, true, IfErr, OnOk, OnErr, Err};
+ghost use Rattle.std.specs.Prelude.{◌≡◌, ◌⊎◌, ◌≤◌, ◌^◌, true, map, IfErr, OnOk, OnErr, Err};
 ghost use Rattle.sqlite.specs.State.{HasCleanDisk};
 ghost use Rattle.sqlite.specs.Held.{state};
 ghost use Rattle.journalstore.specs.declared.error.StoreError.TheVariants.{EpochTooLarge};
-ghost use Rattle.journalstore.specs.Texts.{begun_with, with_change, IsAfter, StandsFor};
+ghost use Rattle.journalstore.specs.Texts.{cut_to, with_change, IsAfter, StandsFor};
+ghost use Rattle.journalstore.specs.Read.{entry_read};
 ghost use Rattle.journalstore.specs.Stores.{Holds, Leaves, Keeps};
 
 use crate::append::{append, is_running};
 use crate::checkpoint::checkpoint;
 use crate::error::StoreError;
 use crate::exclusive::Exclusive;
+use crate::reading::StoredText;
 use sqlite::{Alter, Connection, File, FileStore};
 use std::alloc::Global;
 
@@ -45,25 +47,31 @@ impl<S: Alter> TextStore<S> {
     }
 
     /// Makes a text of this epoch the first map, and takes the old one and the changes up to the epoch away, in one
-    /// transaction. After an error the store holds what it did before, unless a failure of the disk has shut it.
-    /// Whatever a crash leaves holds the texts from before, or the new first map alone.
+    /// transaction; those behind it have to be `kept`. After an error the store holds what it did before, unless a
+    /// failure of the disk has shut it. Whatever a crash leaves holds the texts from before, or the new ones.
     ///
     /// # Errors
     ///
-    /// `EpochTooLarge` if the epoch is above 2^63 - 1, and then nothing is changed; `EpochTaken` if there is a change
-    /// with a later epoch; else the disk's, `TextTooLong`, `Memory` or `Shut`.
-    pub fn checkpoint(&mut self, alloc: Global, epoch: u64, text: &str) -> Result<(), StoreError>
+    /// `EpochTooLarge` if the epoch is above 2^63 - 1, and then nothing is changed; `EpochTaken` if there are
+    /// other changes with a later epoch; else the disk's, `TextTooLong`, `Memory` or `Shut`.
+    pub fn checkpoint(
+        &mut self,
+        alloc: Global,
+        epoch: u64,
+        text: &str,
+        kept: &[StoredText],
+    ) -> Result<(), StoreError>
         ensures cut { OnOk result ((t : _) → Holds S.Store self.old t
-            → Holds S.Store self.new (begun_with epoch text.now)) }
+            → Holds S.Store self.new (cut_to epoch text.now (map entry_read kept.now))) }
         ensures kept { OnErr result ((t : _) → Holds S.Store self.old t → Keeps S.Store self.new t) }
         ensures crash { (t : _) → Holds S.Store self.old t → Leaves S.Store self.new
-            (λ db. StandsFor db t ⊎ StandsFor db (begun_with epoch text.now)) }
+            (λ db. StandsFor db t ⊎ StandsFor db (cut_to epoch text.now (map entry_read kept.now))) }
         ensures clean { HasCleanDisk (state S.Store self.new.conn) → HasCleanDisk (state S.Store self.old.conn) }
         ensures only { IfErr result (λ e. e ≡ EpochTooLarge → 2 ^ 63 ≤ epoch) }
         ensures refused { 2 ^ 63 ≤ epoch → (result ≡ Err EpochTooLarge) × (self.new ≡ self.old) }
     {
         let conn = &mut self.conn;
-        checkpoint(alloc, &mut conn.value, epoch, text)
+        checkpoint(alloc, &mut conn.value, epoch, text, kept)
     }
 
     /// Whether the database answers a question: then no failure has shut it, and it holds what it kept. Where memory is

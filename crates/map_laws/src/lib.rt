@@ -5,12 +5,9 @@
 //! - `maps`: what holds in every map holds in those that lawful changes lead to
 //! - `texts`: the text of a map states that map
 //! - `change_texts`: the text of a change states that change
-//! - `tests`: the written form of changes
 #![tactic(auto)]
 
 pub mod change_texts;
 pub mod changes;
 pub mod maps;
-#[cfg(test)]
-mod tests;
 pub mod texts;

@@ -1,6 +1,5 @@
 -- The texts of a journal: that of its first map, and one for each incremental since.
 use Rattle.std.specs.Prelude.{◌≡◌, ◌-◌, ◌++◌, ℕ, List, [], codes, map, Ok}
-use Rattle.std.specs.List.{All}
 use Rattle.mapparts.specs.declared.profile.Profile.{Profile}
 use Rattle.mapparts.specs.declared.profile.Profile.TheVariants.{Plain, Stock}
 use Rattle.maptypes.specs.Incrementals.{Step}
@@ -45,10 +44,9 @@ pub record IsTextedMap (m : ClusterMap) : Type 0 where
 abbrev pub IsTextedStep : Step → Type 0
 IsTextedStep step = stated_by stated_change (change_text step) ≡ Ok (change_parts (step.epoch - 1) step.change)
 
--- a journal whose texts state it
-pub record IsTexted (j : Journal) : Type 0 where
-  pub first : IsTextedMap j.first
-  pub steps : All IsTextedStep j.steps
+-- texts with those of incrementals behind them
+abbrev pub behind : Texts → List Step → Texts
+behind t steps = record t { changes = t.changes ++ map step_entry steps }
 
 -- the journal of a map and no incremental
 abbrev pub begun : ClusterMap → Journal

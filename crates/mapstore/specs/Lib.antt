@@ -1,6 +1,6 @@
 pub mod JournalTexts
-pub mod OneJournal
-pub mod Stores
-pub mod Laws
 pub mod Openings
+pub mod Stores
+pub mod OneJournal
+pub mod Laws
 pub mod Words

@@ -1,6 +1,7 @@
--- Journals whose texts state them are the same where their texts are.
+-- Journals behind the same texts are the same where their own texts are.
 use Rattle.std.specs.Prelude.{◌≡◌, ◌-◌, ◌++◌, ◌==◌, ℕ, List, [], ◌∷◌, map, Ok, refl, drop, if◌then◌else◌}
 use Rattle.std.proofs.Common.{◌∙◌, sym, ap, subst}
+use Rattle.std.proofs.lemmas.List.{append_cancel_left}
 use Rattle.mapparts.specs.declared.profile.Profile.{Profile}
 use Rattle.mapparts.specs.declared.profile.Profile.TheVariants.{Plain, Stock}
 use Rattle.maptypes.specs.declared.change.ChangeParts.{ChangeParts}
@@ -9,10 +10,12 @@ use Rattle.jsonstream.specs.Json.{stated_by}
 use Rattle.partjson.specs.StatedChanges.{stated_change}
 use Rattle.mapjson.specs.WrittenChanges.{written_change}
 use Rattle.mapjson.specs.PartsOfChange.{change_parts}
-use Rattle.mapjson.proofs.OneText.{one_each, one_map, one_change}
+use Rattle.mapjson.proofs.OneText.{one_each, one_change}
 use Rattle.keeping.specs.Journals.{Journal}
 use Rattle.journalstore.specs.Texts.{Entry, Texts}
-use Rattle.mapstore.specs.JournalTexts.{word_of, change_text, row_text, step_entry, journal_texts, IsTextedStep, IsTexted}
+use Rattle.mapstore.specs.JournalTexts.{word_of, change_text, row_text, step_entry, IsTextedStep}
+use Rattle.mapstore.specs.Stores.{IsBehind, past_of, texts_of}
+use Rattle.mapstore.specs.declared.store.MapStore.{MapStore}
 
 -- the profile whose word a text begins with
 profile_in : List ℕ → Profile
@@ -47,12 +50,12 @@ one_step s t first second e =
     let change = one_change (s.epoch - 1) s.change t.change profile first also same in
     λ i. record { epoch = epoch i; change = change i }
 
-pub one_journal : (j k : Journal) → IsTexted j → IsTexted k → journal_texts j ≡ journal_texts k → j ≡ k
-one_journal j k first second e =
-    let text = ap (λ (t : Texts). t.first.1) e in
+pub one_journal : {S : Type 0} (store : MapStore S) (j k : Journal) → IsBehind store j → IsBehind store k
+    → texts_of store j ≡ texts_of store k → j ≡ k
+one_journal store j k first second e =
     let changes = ap (λ (t : Texts). t.changes) e in
-    let held = first.first in
-    let also = second.first in
-    let map = one_map j.first k.first held.holds also.holds held.states also.states text in
-    let steps = one_each step_entry IsTextedStep one_step j.steps k.steps first.steps second.steps changes in
+    let past = (past_of store).changes in
+    let own = append_cancel_left past (map step_entry j.steps) (map step_entry k.steps) changes in
+    let map = first.first ∙ sym second.first in
+    let steps = one_each step_entry IsTextedStep one_step j.steps k.steps first.steps second.steps own in
     λ i. record { first = map i; steps = steps i }

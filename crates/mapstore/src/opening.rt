@@ -1,6 +1,6 @@
 //! How a store is begun and opened.
 
-ghost use Rattle.std.specs.Prelude.{◌≡◌, ◌<◌, [], IfOk, IfErr, OnOk, IsErrAnd};
+ghost use Rattle.std.specs.Prelude.{◌≡◌, ◌<◌, IfOk, IfErr};
 ghost use Rattle.sqlite.specs.State.{HasCleanDisk};
 ghost use Rattle.sqlite.specs.Held.{state};
 ghost use Rattle.sqlite.specs.Files.{over_files};
@@ -10,7 +10,7 @@ ghost use Rattle.journalstore.specs.Texts.{begun_with};
 ghost use Rattle.journalstore.specs.Read.{texts_read};
 ghost use Rattle.journalstore.specs.Stores.{Holds};
 ghost use Rattle.mapstore.specs.declared.error.OpenError.TheVariants.{LateEpoch};
-ghost use Rattle.mapstore.specs.JournalTexts.{IsTextedMap, begun};
+ghost use Rattle.mapstore.specs.JournalTexts.{begun};
 ghost use Rattle.mapstore.specs.Stores.{HoldsJournal};
 ghost use Rattle.mapstore.specs.Openings.{IsMapOf, IsFoundIn, IsUnopened};
 ghost use Rattle.mapjson.specs.Written.{written};
@@ -18,9 +18,11 @@ ghost use Rattle.mapjson.specs.Written.{written};
 use crate::error::OpenError;
 use crate::first::write_first;
 use crate::found::find_map;
+use crate::noted::Noted;
 use crate::store::MapStore;
+use crate::trim::trim;
 use crate::witness::Witness;
-use journalstore::{StoreError, StoredTexts, TextStore, is_begun};
+use journalstore::{StoredTexts, TextStore};
 use mapparts::limits::MAX_FIRST_EPOCH;
 use osdmap::OsdMap;
 use sqlite::{Alter, FileFrom, FileStore, Start};
@@ -40,47 +42,31 @@ fn check_epoch(map: &OsdMap) -> Result<(), OpenError>
     }
 }
 
-/// Makes a text the first map, unless the texts that were found begin with it and have no change.
-fn settle<S: Alter>(
-    alloc: Global,
-    store: &mut TextStore<S>,
-    found: &StoredTexts,
-    epoch: u64,
-    text: &str,
-) -> Result<(), StoreError>
-    requires { Holds S.Store store.old (texts_read found.now) }
-    ensures holds { OnOk result (Holds S.Store store.new (begun_with epoch text.now)) }
-    ensures clean { HasCleanDisk (state S.Store store.new.conn) → HasCleanDisk (state S.Store store.old.conn) }
-{
-    if is_begun(found, epoch, text) {
-        return Ok(());
-    }
-    store.checkpoint(alloc, epoch, text)?;
-    Ok(())
-}
-
-/// The store of a map and no change, whose text is the first of these texts.
-fn hold_first<S: Alter>(
+/// The store over texts that stand for a map, which the journal begins with.
+fn hold<S: Alter>(
     alloc: Global,
     texts: TextStore<S>,
+    past: &StoredTexts,
     map: &OsdMap,
     witness: Witness,
 ) -> MapStore<S>
-    requires texted { IsTextedMap map.now.map }
-    requires holds { Holds S.Store texts (begun_with map.now.map.epoch (written map.now.map)) }
+    requires stands { IsMapOf (texts_read past.now) map.now.map }
+    requires holds { Holds S.Store texts (texts_read past.now) }
     ensures holds { HoldsJournal S.Store result (begun map.now.map) }
     ensures same { result.texts ≡ texts }
 {
     MapStore {
         texts,
+        past: Noted::of(past),
+        found: Noted::of(map),
         last: map.epoch(),
         alloc,
         witness,
     }
 }
 
-/// The store over an open one, in which these texts were found, with the map that they stand for as the first one and
-/// no change.
+/// The store over an open one, in which these texts were found, with the map that they stand for, which the journal
+/// begins with. The first map moves on where there are more than `keep` changes, so that so many are left.
 ///
 /// # Errors
 ///
@@ -89,22 +75,22 @@ fn hold_first<S: Alter>(
 pub fn adopt<S: Alter + Drop>(
     alloc: Global,
     texts: TextStore<S>,
-    found: &StoredTexts,
+    found: StoredTexts,
+    keep: u32,
     witness: Witness,
 ) -> Result<(MapStore<S>, OsdMap), OpenError>
-    requires { Holds S.Store texts (texts_read found.now) }
+    requires { Holds S.Store texts (texts_read found) }
     ensures holds { IfOk result (λ r. HoldsJournal S.Store r.0 (begun r.1.map)) }
-    ensures map { IfOk result (λ r. IsMapOf (texts_read found.now) r.1.map) }
+    ensures map { IfOk result (λ r. IsMapOf (texts_read found) r.1.map) }
     ensures clean { IfOk result (λ r. HasCleanDisk (state S.Store r.0.texts.conn)
         → HasCleanDisk (state S.Store texts.conn)) }
-    ensures unopened { IfErr result (IsUnopened (texts_read found.now)) }
+    ensures unopened { IfErr result (IsUnopened (texts_read found)) }
 {
-    let map = find_map(alloc, found)?;
+    let map = find_map(alloc, &found)?;
     check_epoch(&map)?;
-    let text = write_first(alloc, &map)?;
     let mut texts = texts;
-    settle(alloc, &mut texts, found, map.epoch(), text.as_str())?;
-    Ok((hold_first(alloc, texts, &map, witness), map))
+    let past = trim(alloc, &mut texts, found, &map, keep)?;
+    Ok((hold(alloc, texts, &past, &map, witness), map))
 }
 
 /// Makes a store with this first map and no change, where there is no file, an empty one, or a database with no table,
@@ -129,11 +115,11 @@ pub fn begin<V: Start, W: Start>(
     check_epoch(map)?;
     let text = write_first(rt.alloc(), map)?;
     let (texts, found) = journalstore::begin(rt, path, starts, map.epoch(), text.as_str())?;
-    adopt(rt.alloc(), texts, &found, witness)
+    adopt(rt.alloc(), texts, found, 0, witness)
 }
 
-/// Opens a store: the map that its texts stand for, which is then its first map, with no change. So it writes a
-/// checkpoint where there are changes.
+/// Opens a store: the map that its texts stand for, which the journal begins with. Where there are more than `keep`
+/// changes it writes a checkpoint, which leaves so many.
 ///
 /// # Errors
 ///
@@ -144,17 +130,18 @@ pub fn open<W: Start>(
     rt: &HostRuntime,
     path: &str,
     start: W,
+    keep: u32,
     witness: Witness,
 ) -> Result<(FileMaps<W>, OsdMap), OpenError>
     ensures holds { IfOk result (λ r. HoldsJournal over_files r.0 (begun r.1.map)) }
     ensures found { IfOk result (λ r. IsFoundIn over_files (image_at W.Start) r.0 r.1.map) }
 {
     let (texts, found) = journalstore::open(rt, path, start)?;
-    adopt(rt.alloc(), texts, &found, witness)
+    adopt(rt.alloc(), texts, found, keep, witness)
 }
 
-/// Makes one file of the files of a store, which another program may have open, as [`journalstore::copy_store`] says: the
-/// map that its texts stand for.
+/// Makes one file of the files of a store, which another program may have open, as [`journalstore::copy_store`] says:
+/// the map that its texts stand for.
 ///
 /// # Errors
 ///

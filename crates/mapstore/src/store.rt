@@ -2,19 +2,25 @@
 
 ghost use Rattle.std.specs.Prelude.{◌≡◌, ◌≤◌, OnOk, OnErr};
 
+use crate::noted::Noted;
 use crate::row::write_row;
 use crate::witness::Witness;
-use journalstore::{StoreError, TextStore};
+use journalstore::{StoreError, StoredTexts, TextStore};
 use keeping::{Keeps, NotKept};
 use maptypes::Incremental;
+use osdmap::OsdMap;
 use sqlite::Alter;
 use std::alloc::Global;
 
-/// A journal in a database: its first map, and the incrementals since.
+/// A journal in a database: the map that was found there, and the incrementals since.
 #[derive(Drop)]
 pub struct MapStore<S: Alter> {
     pub(crate) texts: TextStore<S>,
-    /// No incremental has a later epoch.
+    /// The texts that were found, behind which those of the incrementals stand.
+    pub(crate) past: Noted<StoredTexts>,
+    /// The map that they stand for.
+    pub(crate) found: Noted<OsdMap>,
+    /// No change has a later epoch.
     pub(crate) last: u64,
     pub(crate) alloc: Global,
     /// Who is told why it fails.

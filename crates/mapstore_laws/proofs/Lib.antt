@@ -1,1 +1,2 @@
+mod LeftJournals
 mod OpenedBack

@@ -2,6 +2,7 @@
 use Rattle.std.proofs.Common.{◌≡◌, ◌≢◌, ◌∙◌, ◌⊎◌, inl, inr, ℕ, zero, suc, ◌+◌, ◌-◌, ◌^◌, ◌<◌, ◌==◌, ◌&&◌, ◌++◌, Bool, true, List, [], ◌∷◌, map, drop, Option, Some, None, if◌then◌else◌, refl, sym, ap, subst, arith}
 use Rattle.std.specs.List.{All, AllZip, Contains}
 use Rattle.std.proofs.lemmas.Bool.Decides.{nat_tests}
+use Rattle.std.proofs.lemmas.List.{map-append}
 use Rattle.std.proofs.lemmas.List.Elements.{All-head, All-tail}
 use Rattle.refusal.specs.declared.refused.Refusal.{Refusal}
 use Rattle.refusal.specs.declared.refused.Refusal.TheVariants.{Memory as OutOfMemory}
@@ -19,13 +20,13 @@ use Rattle.replay.specs.Replays.{step_fault, MakesStep, IsRefused, StandFor}
 use Rattle.map_laws.specs.TextLaws.{IsTextOf}
 use Rattle.map_laws.specs.ChangeLaws.{IsTextOfChange, as_stock, IsJournalReadBack}
 use Rattle.keeping.specs.Journals.{Journal}
-use Rattle.journalstore.specs.Texts.{Entry}
+use Rattle.journalstore.specs.Texts.{Entry, Texts}
 use Rattle.mapstore.specs.declared.error.OpenError.{OpenError}
 use Rattle.mapstore.specs.declared.error.OpenError.TheVariants.{Store, Journal as NoJournal, NoProfile, LateEpoch}
-use Rattle.mapstore.specs.JournalTexts.{change_text, row_text, step_entry, journal_texts}
+use Rattle.mapstore.specs.JournalTexts.{change_text, row_text, step_entry, journal_texts, behind}
 use Rattle.mapstore.specs.OneJournal.{stands_behind}
 use Rattle.mapstore.specs.Openings.{IsRow, IsWordless, IsMapOf, IsUnopened}
-use Rattle.mapstore_laws.specs.OpeningLaws.{IsOfMonitor, MayRefuse, IsOpenedBack}
+use Rattle.mapstore_laws.specs.OpeningLaws.{IsOfMonitor, MayRefuse, IsOpenedBack, with_later}
 
 -- ---- one row
 
@@ -133,5 +134,9 @@ module _ (j : Journal) (of : IsOfMonitor j) (first : IsTextOf (written j.first) 
       none step.change.profile (change_text step) (ap (λ (e : Entry). e.1) (sym is))
   refused_by (LateEpoch epoch) (m, stands, is, late) = (ap (λ (n : ClusterMap). n.epoch) (sym (map_is m stands)) ∙ is, late)
 
-  pub opened_back : IsOpenedBack j
+  pub opened_back : IsOpenedBack (journal_texts j) j
   opened_back = record { map = map_is; refused = refused_by }
+
+-- the texts of a journal with those of later runs behind them are those of the whole
+pub later_texts : (j : Journal) (later : List Step) → journal_texts (with_later j later) ≡ behind (journal_texts j) later
+later_texts j later = ap (λ (changes : List Entry). record (journal_texts j) { changes = changes }) (map-append step_entry j.steps later)

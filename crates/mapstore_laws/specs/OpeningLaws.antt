@@ -1,5 +1,5 @@
--- What a store that held the journal of a monitor is opened with.
-use Rattle.std.specs.Prelude.{◌≡◌, ◌<◌, ◌^◌, ⊤, ℕ, List}
+-- What a store is opened with that held the journal of a monitor, and behind it what a crash leaves of later runs.
+use Rattle.std.specs.Prelude.{◌≡◌, ◌<◌, ◌^◌, ◌++◌, ⊤, ℕ, List}
 use Rattle.std.specs.List.{All}
 use Rattle.refusal.specs.declared.refused.Refusal.TheVariants.{Memory as OutOfMemory}
 use Rattle.mapparts.specs.Limits.{max_first_epoch}
@@ -9,10 +9,11 @@ use Rattle.osdmap.specs.Changes.{after, IsLawful}
 use Rattle.replay.specs.declared.fault.Fault.{Fault}
 use Rattle.replay.specs.declared.fault.Fault.TheVariants.{First, Row}
 use Rattle.map_laws.specs.Laws.{IsTextEpoch, AreChanges}
-use Rattle.keeping.specs.Journals.{Journal}
+use Rattle.keeping.specs.Journals.{Journal, HasAll}
 use Rattle.mapstore.specs.declared.error.OpenError.{OpenError}
 use Rattle.mapstore.specs.declared.error.OpenError.TheVariants.{Store, Journal as NoJournal, NoProfile, LateEpoch}
-use Rattle.mapstore.specs.JournalTexts.{journal_texts}
+use Rattle.journalstore.specs.Texts.{Texts}
+use Rattle.mapstore.specs.JournalTexts.{journal_texts, behind}
 use Rattle.mapstore.specs.Openings.{IsMapOf, IsUnopened}
 
 -- a journal that a monitor may have: lawful changes from a first map, each with an epoch of 64 bits
@@ -35,11 +36,17 @@ MayRefuse j (NoJournal fault) = IsOfMemory fault
 MayRefuse j (NoProfile epoch) = ⊥
 MayRefuse j (LateEpoch epoch) = ((after j.first j.steps).epoch ≡ epoch) × (max_first_epoch < epoch)
 
--- its texts stand for the map after the journal and for no other, and are refused for no other reason
-pub record IsOpenedBack (j : Journal) : Type 0 where
-  pub map : (m : ClusterMap) → IsMapOf (journal_texts j) m → m ≡ after j.first j.steps
-  pub refused : (e : OpenError) → IsUnopened (journal_texts j) e → MayRefuse j e
+-- texts stand for the map after the journal and for no other, and are refused for no other reason
+pub record IsOpenedBack (t : Texts) (j : Journal) : Type 0 where
+  pub map : (m : ClusterMap) → IsMapOf t m → m ≡ after j.first j.steps
+  pub refused : (e : OpenError) → IsUnopened t e → MayRefuse j e
 
--- so are those of each journal from this map on
+-- a journal with the incrementals of later runs
+abbrev pub with_later : Journal → List Step → Journal
+with_later j later = record j { steps = j.steps ++ later }
+
+-- so do the texts of each journal from this map on, with those behind them that a crash leaves of later runs
 abbrev pub AreOpened : ClusterMap → Type 0
-AreOpened first = (j : Journal) → j.first ≡ first → IsOfMonitor j → IsOpenedBack j
+AreOpened first =
+    (j : Journal) (later left : List Step) → j.first ≡ first → IsOfMonitor (with_later j later)
+    → HasAll (with_later j later) (with_later j left) → IsOpenedBack (behind (journal_texts j) left) (with_later j left)

@@ -1,4 +1,4 @@
-//! What a store that held the journal of a monitor is opened with.
+//! What a store is opened with that held the journal of a monitor, and behind it what a crash leaves of later runs.
 
 ghost use Rattle.mapstore_laws.specs.OpeningLaws.{AreOpened};
 
@@ -6,8 +6,9 @@ use map_laws::change_texts::journals_are_read_back;
 use map_laws::texts::written_map_is_read_back;
 use osdmap::OsdMap;
 
-/// The texts of a lawful journal stand for the map after it and for no other; and no journal of a monitor is refused as
-/// a store is opened, but out of memory, or where the map after it has an epoch above 2,147,483,648.
+/// The texts of a lawful journal, with those behind them that a crash leaves of later runs, which are all that was
+/// accepted and at most the next change more, stand for the map after all of these and for no other. No such journal is
+/// refused as a store is opened, but out of memory, or where that map has an epoch above 2,147,483,648.
 pub fn kept_journals_are_opened(first: &OsdMap)
     ensures { AreOpened first.now.map }
 {

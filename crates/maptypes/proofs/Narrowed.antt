@@ -12,7 +12,7 @@ use Rattle.mapparts.specs.declared.parts.ChoosePart.{ChoosePart}
 use Rattle.mapparts.specs.declared.parts.StepPart.{StepPart}
 use Rattle.mapparts.specs.declared.parts.StepPart.TheVariants.{SetChooseTries, SetChooseleafTries, Take, Choose as Chooses, Emit}
 use Rattle.mapparts.specs.declared.parts.OsdPart.{OsdPart}
-use Rattle.mapparts.specs.Parts.{is_between, has_between, item_fits, bucket_fits, step_fits, rule_fits, osd_fits}
+use Rattle.mapparts.specs.Parts.{is_between, has_between, is_osd_id, item_fits, bucket_fits, step_fits, rule_fits, osd_fits}
 use Rattle.maptypes.specs.Values.{item_of, bucket_of, step_of}
 use Rattle.buckets.specs.Kinds.{most_items}
 use Rattle.crush.specs.WellFormed.{forest_limits_ok}
@@ -21,6 +21,12 @@ use Rattle.buckets.specs.Buckets.{is_bucket_id, item_limits_ok, bucket_limits_ok
 use Rattle.crush.specs.Grammar.{step_limits_ok, rule_limits_ok}
 use Rattle.mapparts.proofs.Within.{word_between, natural_between}
 use Rattle.keylist.proofs.Each.{all_more}
+
+-- the id of an OSD has two bytes
+pub osd_id_short : (z : ℤ) → is_osd_id z ≡ true → IsTrue (is_between (pos 0) (pos 65535) z)
+unfolding is_osd_id is_between
+osd_id_short (pos n) h = grind (arith, nat_tests)
+osd_id_short (negsuc n) h = absurd (false≢true h)
 
 -- a number is a byte where its upper bound is
 pub byte_between : (low high : ℕ) (z : ℤ) → high ≤ 255 → is_between (pos low) (pos high) z ≡ true → IsTrue (is_between (pos 0) (pos 255) z)

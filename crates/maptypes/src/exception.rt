@@ -24,13 +24,13 @@ pub type Explicit = Exception<u32>;
 /// The pairs that act on a group's set in order.
 pub type Items = Exception<Pair>;
 
-/// A pair: one OSD goes to another.
+/// A pair: one OSD goes to another. Each takes two bytes, since a map may have a pair for each of its groups.
 #[derive(Clone, Copy, Debug, PartialEq, Eq)]
 pub struct Pair {
     /// The OSD that goes: 0 to 4,095.
-    pub from: u32,
+    pub from: u16,
     /// The OSD that comes in its place: 0 to 4,095.
-    pub to: u32,
+    pub to: u16,
 }
 
 impl Blank for u32 {
@@ -144,7 +144,7 @@ impl Entry for Pair {
     ghost sound = { are_pairs };
 
     fn named_osds(&self) -> (u32, Option<u32>) {
-        (self.from, Some(self.to))
+        (u32::from(self.from), Some(u32::from(self.to)))
     }
 
     fn are_sound(entries: &[Pair]) -> bool {

@@ -1,8 +1,8 @@
 //! The exceptions that parts within their limits stand for.
 
-ghost use Rattle.std.specs.Prelude.{◌≡◌, ◌≤◌, true, map, length, IfOk};
+ghost use Rattle.std.specs.Prelude.{◌≡◌, ◌≤◌, pos, nat_abs, true, map, length, IfOk, IsTrue};
 ghost use Rattle.std.specs.List.{list_all};
-ghost use Rattle.mapparts.specs.Parts.{exception_fits, exceptions_fit};
+ghost use Rattle.mapparts.specs.Parts.{is_between, exception_fits, exceptions_fit};
 ghost use Rattle.maptypes.specs.Values.{exception_of};
 
 use crate::exception::{Exception, Pair};
@@ -12,6 +12,15 @@ use mapparts::numbers::word;
 use mapparts::{EntryPart, ExceptionPart, PairPart};
 use refusal::Memory;
 use std::alloc::Global;
+
+/// The id of an OSD, which is within its limits, in two bytes.
+#[tactic(auto, unfolding(mapparts::specs::Parts::is_between))]
+fn short_id(id: i128) -> u16
+    requires { IsTrue (is_between (pos 0) (pos 65535) id) }
+    ensures { result ≡ nat_abs id }
+{
+    id as u16
+}
 
 /// A part that stands for an entry of an exception.
 pub trait StandsFor<E>: EntryPart {
@@ -42,8 +51,8 @@ impl StandsFor<Pair> for PairPart {
 
     fn entry(&self) -> Pair {
         Pair {
-            from: word(self.from),
-            to: word(self.to),
+            from: short_id(self.from),
+            to: short_id(self.to),
         }
     }
 }

@@ -153,8 +153,8 @@ impl UpSet {
         requires { pair.to < max_devices }
         ensures { self.new ≡ replace pair self.old }
     {
-        if let Some(place) = place_of(self.places(), pair.from) {
-            self.places.set(place, Some(pair.to as u16));
+        if let Some(place) = place_of(self.places(), u32::from(pair.from)) {
+            self.places.set(place, Some(pair.to));
         }
     }
 

@@ -31,7 +31,8 @@ impl OsdMap {
     fn act(&self, set: &mut UpSet, pair: Pair)
         ensures { set.new ≡ with_pair self.now.map.weights set.old pair }
     {
-        if !set.has(pair.to) && !self.is_weightless(pair.to) {
+        let to = u32::from(pair.to);
+        if !set.has(to) && !self.is_weightless(to) {
             set.replace(pair);
         }
     }

@@ -1,14 +1,20 @@
 -- What the words of the program's command line ask for, by the parser's own definitions of what it finds in words.
-use Rattle.std.specs.Prelude.{◌≡◌, true, List, codes, Option, Some, option_map, Result, string_bytes}
+use Rattle.std.specs.Prelude.{◌≡◌, true, ℕ, pos, List, [], ◌∷◌, codes, Option, Some, option_map, Result}
+use Rattle.std.specs.Prelude.{string_bytes}
+use Rattle.clap.specs.declared.builder.value_parser.ValueParser.TheVariants.{Signed}
 use Rattle.clap.specs.declared.builder.action.ArgAction.TheVariants.{Set, Append}
 use Rattle.clap.specs.Lexer.{usize_max}
 use Rattle.clap.specs.Walk.{Row, Rule, Text, first_of}
 use Rattle.clap.specs.Simple.{App, new_app, new_rule, on_top, with_rule}
 use Rattle.cli.specs.declared.choices.LineError.{LineError}
-use Rattle.cli.specs.Arguments.{journal_rule, stock_rule, to_rule, AreFoundSessions, ReadsBy}
+use Rattle.cli.specs.Arguments.{journal_rule, stock_rule, to_rule, IsNumberOf, AreFoundSessions, ReadsBy}
 use Rattle.osdmapstore.specs.declared.choices.Options.{Options}
 
 -- ---- the command
+
+-- how many changes an open may be told to leave
+abbrev pub most_kept : ℕ
+most_kept = 1000000
 
 -- `--begin MAP`
 abbrev pub begin_rule : Rule
@@ -20,6 +26,16 @@ open_or_begin_rule = record (new_rule (codes "open-or-begin")) {
   long = Some (codes "open-or-begin");
   action = Some Set;
   value_names = 1;
+}
+
+-- `--keep N`
+abbrev pub keep_rule : Rule
+keep_rule = record (new_rule (codes "keep")) {
+  long = Some (codes "keep");
+  action = Some Set;
+  value_names = 1;
+  defaults = codes "1024" ∷ [];
+  parser = Some (Signed (pos 0) (pos most_kept));
 }
 
 -- `--backup FILE`
@@ -48,10 +64,11 @@ store_program_of_sessions = with_rule (with_rule (with_rule store_program journa
 -- with all its options
 abbrev pub store_program_with_options : App
 store_program_with_options =
-    with_rule (with_rule (with_rule store_program_of_sessions begin_rule) open_or_begin_rule) backup_rule
+    with_rule (with_rule (with_rule (with_rule store_program_of_sessions begin_rule) open_or_begin_rule) keep_rule)
+    backup_rule
 
--- `osdmapstore [--journal N] [--stock] [--to ANSWERS].. [--begin MAP] [--open-or-begin MAP] [--backup FILE] STORE
--- [SCRIPT..]`
+-- `osdmapstore [--journal N] [--stock] [--to ANSWERS].. [--begin MAP] [--open-or-begin MAP] [--keep N] [--backup FILE]
+-- STORE [SCRIPT..]`
 abbrev pub store_app : App
 store_app = with_rule (with_rule store_program_with_options store_rule) any_scripts_rule
 
@@ -73,10 +90,12 @@ backup_path_in rows = first_of (codes "backup") rows
 abbrev pub store_path_in : List Row → Option Text
 store_path_in rows = first_of (codes "STORE") rows
 
--- the options are what was found for the maps to begin with, the copy, the store and the sessions
+-- the options are what was found for the maps to begin with, the changes that are kept, the copy, the store and the
+-- sessions
 pub record AreStoreFound (rows : List Row) (o : Options) : Type 0 where
   pub begin_found : begin_path_in rows ≡ option_map string_bytes o.begin
   pub open_or_begin_found : open_or_begin_path_in rows ≡ option_map string_bytes o.open_or_begin
+  pub keep_found : IsNumberOf (codes "keep") rows o.keep
   pub backup_found : backup_path_in rows ≡ option_map string_bytes o.backup
   pub store_found : store_path_in rows ≡ Some (string_bytes o.store)
   pub sessions_found : AreFoundSessions rows o.sessions

@@ -10,7 +10,8 @@ use Rattle.cli.specs.Endings as run
 use Rattle.osdmapstore.specs.declared.ending.Ending.{Ending}
 use Rattle.osdmapstore.specs.declared.ending.Ending.TheVariants.{Store, Failed, Run}
 
--- the exit status: 5 for a store that is not begun or opened, 6 for one that failed, and what else ends a run by its own
+-- the exit status: 5 for a store that is not begun or opened, 6 for one that failed, and what else ends a run by its
+-- own
 abbrev pub store_status_of : Ending → ℕ
 store_status_of (Store error) = 5
 store_status_of (Failed other) = 6

@@ -1,21 +1,27 @@
 //! The command line.
 
-ghost use Rattle.std.specs.Prelude.{◌≡◌, ◌≤◌, IfOk, map, option_map, string_bytes, vec_len};
+ghost use Rattle.std.specs.Prelude.{◌≡◌, ◌≤◌, ◌<◌, ◌^◌, ℕ, IfOk, MatchOption};
+ghost use Rattle.std.specs.Prelude.{codes, map, option_map, string_bytes, vec_len};
 ghost use Rattle.clap.specs.Matches.{found_of};
 ghost use Rattle.clap.specs.Simple.{app_of};
 ghost use Rattle.clap.specs.Walk.{first_of, rows_of};
 ghost use Rattle.epochlog.specs.Epochs.{max_capacity};
 ghost use Rattle.serving.specs.Serving.{max_scripts};
-ghost use Rattle.cli.specs.Arguments.{ArePaired, Chooses, IsReadBy};
-ghost use Rattle.osdmapstore.specs.CommandLine.{begin_rule, open_or_begin_rule, backup_rule, store_rule, any_scripts_rule, store_program, store_program_of_sessions, store_program_with_options, store_app};
+ghost use Rattle.cli.specs.Arguments.{ArePaired, Chooses, IsNumberOf, IsReadBy};
+ghost use Rattle.osdmapstore.specs.CommandLine.{begin_rule, open_or_begin_rule, keep_rule, backup_rule};
+ghost use Rattle.osdmapstore.specs.CommandLine.{store_rule, any_scripts_rule, store_program, store_app};
+ghost use Rattle.osdmapstore.specs.CommandLine.{store_program_of_sessions, store_program_with_options};
 ghost use Rattle.osdmapstore.specs.CommandLine.{AreStoreFound, ReadsStoreLine};
 
 use crate::choices::Options;
-use clap::{Arg, ArgAction, ArgMatches, Command};
+use clap::{Arg, ArgAction, ArgMatches, Command, value_parser};
 use cli::{
     LineError, journal_option, line_error, path_in, session_options, stock_option, to_option,
 };
 use std::alloc::{AllocError, Global};
+
+/// How many changes an open may be told to leave at most.
+const MOST_KEPT: i64 = 1_000_000;
 
 /// What `--version` tells beside the program's name.
 const VERSION: &str = "0.2.0";
@@ -47,6 +53,19 @@ fn open_or_begin_option<'a>(alloc: Global) -> Arg<'a>
         .value_name("MAP")
         .help("Makes the store first, with the map of this file, where there is none yet")
         .action(ArgAction::Set)
+}
+
+/// `--keep N`.
+fn keep_option<'a>(alloc: Global) -> Arg<'a>
+    ensures { IsReadBy keep_rule result }
+{
+    Arg::new(alloc, "keep")
+        .long("keep")
+        .value_name("N")
+        .help("How many of the changes that it finds an open leaves in the store: 0 to 1000000")
+        .action(ArgAction::Set)
+        .value_parser(value_parser!(u32).range(0..=MOST_KEPT))
+        .default_value("1024")
 }
 
 /// `--backup FILE`.
@@ -111,6 +130,7 @@ fn program_with_options<'a>(alloc: Global) -> Result<Command<'a>, AllocError>
     program_of_sessions(alloc)?
         .arg(begin_option(alloc))?
         .arg(open_or_begin_option(alloc))?
+        .arg(keep_option(alloc))?
         .arg(backup_option(alloc))
 }
 
@@ -137,6 +157,15 @@ fn copied_path(
     }
 }
 
+/// The number given for the changes that are kept.
+fn keep_in(matches: &ArgMatches<'_>) -> Option<u32>
+    ensures { MatchOption result
+        ((n : ℕ) → n < 2 ^ 32 → IsNumberOf (codes "keep") (rows_of (found_of matches.now)) n → ⊥)
+        (IsNumberOf (codes "keep") (rows_of (found_of matches.now))) }
+{
+    matches.get_one("keep")
+}
+
 /// The options of words that the parser took. A value that it had to find and did not is told as out of memory.
 fn options_in(alloc: Global, matches: &ArgMatches<'_>) -> Result<Options, LineError>
     ensures least { IfOk result (λ o. 1 ≤ o.sessions.journal) }
@@ -146,10 +175,12 @@ fn options_in(alloc: Global, matches: &ArgMatches<'_>) -> Result<Options, LineEr
     ensures taken { Chooses AreStoreFound (rows_of (found_of matches.now)) result }
 {
     let store = path_in(matches, "STORE").ok_or(LineError::Memory)?;
+    let keep = keep_in(matches).ok_or(LineError::Memory)?;
     let sessions = session_options(alloc, matches)?;
     Ok(Options {
         begin: copied_path(alloc, matches, "begin")?,
         open_or_begin: copied_path(alloc, matches, "open-or-begin")?,
+        keep,
         backup: copied_path(alloc, matches, "backup")?,
         store: String::from_str(alloc, store)?,
         sessions,
@@ -157,11 +188,11 @@ fn options_in(alloc: Global, matches: &ArgMatches<'_>) -> Result<Options, LineEr
 }
 
 /// What a command line asks for, the program's name first: `[--journal N] [--stock] [--to ANSWERS].. [--begin MAP]
-/// [--open-or-begin MAP] [--backup FILE] STORE [SCRIPT..]`, N from 1 to 65,536 and 1,024 where it is not given, at
-/// most 64 scripts, and as many files of answers or none. The options are those that the parser finds in the words,
-/// exactly where it has nothing against them and the numbers are so; `Help` where help was asked for, `Usage` for what
-/// else the parser has against the words, `TooMany` where there are more scripts, `Unpaired` where there are files of
-/// answers but another number of them, else `Memory`.
+/// [--open-or-begin MAP] [--keep N] [--backup FILE] STORE [SCRIPT..]`, the journal's N from 1 to 65,536, the other from
+/// 0 to 1,000,000, and 1,024 where one is not given, at most 64 scripts, and as many files of answers or none. The
+/// options are those that the parser finds in the words, exactly where it has nothing against them and the numbers are
+/// so; `Help` where help was asked for, `Usage` for what else the parser has against the words, `TooMany` where there
+/// are more scripts, `Unpaired` where there are files of answers but another number of them, else `Memory`.
 pub fn options(alloc: Global, words: &[String]) -> Result<Options, LineError>
     ensures least { IfOk result (λ o. 1 ≤ o.sessions.journal) }
     ensures most { IfOk result (λ o. o.sessions.journal ≤ max_capacity) }

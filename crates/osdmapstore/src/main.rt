@@ -1,6 +1,7 @@
 //! Answers scripts of commands over the map of a cluster that a file keeps, so that no change that was answered is lost
-//! in a crash: `osdmapstore [--journal N] [--stock] [--to ANSWERS].. [--begin MAP] [--open-or-begin MAP] [--backup FILE]
-//! STORE [SCRIPT..]`, where `-` for a script is standard input, and for a file of answers standard output.
+//! in a crash: `osdmapstore [--journal N] [--stock] [--to ANSWERS].. [--begin MAP] [--open-or-begin MAP] [--keep N]
+//! [--backup FILE] STORE [SCRIPT..]`, where `-` for a script is standard input, and for a file of answers standard
+//! output.
 //!
 //! - `line`, `choices`: what a command line asks for
 //! - `ending`: how a run ends
@@ -90,7 +91,7 @@ fn begin<'a, R: Files + AllocGlobal, V: Start, W: Start>(
 /// Opens the store: the store, and the map that its texts stand for.
 fn open<'a, R, W: Start>(
     system: &System<'_, R>,
-    path: &str,
+    options: &Options,
     start: W,
     witness: Witness,
 ) -> Result<First<FileMaps<W>>, Ending<'a>>
@@ -98,7 +99,13 @@ fn open<'a, R, W: Start>(
     ensures found { IfOk result (λ first. IsFoundIn over_files (image_at W.Start) first.store first.map.map) }
     ensures status { IfErr result (λ e. 2 ≤ store_status_of e) }
 {
-    match mapstore::open(system.host, path, start, witness) {
+    match mapstore::open(
+        system.host,
+        options.store.as_str(),
+        start,
+        options.keep,
+        witness,
+    ) {
         Ok((store, map)) => Ok(First { map, store }),
         Err(error) => Err(Ending::of_open(error)),
     }
@@ -115,8 +122,8 @@ fn map_to_begin<'a>(host: &HostRuntime, options: &'a Options) -> Option<&'a str>
     }
 }
 
-/// Makes the store, where the command line says so, or opens it: the store, and its map, which is the one that the texts
-/// in its file stand for. `starts` stands for what the files hold before a store is made, and as one is opened.
+/// Makes the store, where the command line says so, or opens it: the store, and its map, which is the one that the
+/// texts in its file stand for. `starts` stands for what the files hold before a store is made, and as one is opened.
 fn begin_or_open<'a, R: Files + AllocGlobal, V: Start, W: Start>(
     system: &System<'_, R>,
     options: &'a Options,
@@ -131,7 +138,7 @@ fn begin_or_open<'a, R: Files + AllocGlobal, V: Start, W: Start>(
         Some(path) => begin(system, options, path, starts, witness),
         None => {
             let (_, start) = starts;
-            open(system, options.store.as_str(), start, witness)
+            open(system, options, start, witness)
         }
     }
 }

@@ -3,14 +3,11 @@
 //! - `row`: a row, and the map after its change
 //! - `fault`: why there is no such map
 //! - `rows`: all rows, one after the other
-//! - `tests`: a journal of two changes, by an example
 #![tactic(auto)]
 
 mod fault;
 mod row;
 mod rows;
-#[cfg(test)]
-mod tests;
 
 pub use fault::Fault;
 pub use row::{Row, make_row};

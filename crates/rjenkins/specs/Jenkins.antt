@@ -11,8 +11,8 @@ abbrev pub shifted_left : ℕ → ℕ → ℕ
 shifted_left a k = (a * 2 ^ k) % 2 ^ 32
 
 -- three of the nine assignments: each word less the other two, xor the last of these shifted
-unfoldable pub turned : ℕ → ℕ → ℕ → ℕ × ℕ × ℕ → ℕ × ℕ × ℕ
-turned right left last words =
+unfoldable pub third : ℕ → ℕ → ℕ → ℕ × ℕ × ℕ → ℕ × ℕ × ℕ
+third right left last words =
     let a = bit_xor (minus (minus words.0 words.1) words.2) (words.2 / 2 ^ right) in
     let b = bit_xor (minus (minus words.1 words.2) a) (shifted_left a left) in
     let c = bit_xor (minus (minus words.2 a) b) (b / 2 ^ last) in
@@ -20,7 +20,7 @@ turned right left last words =
 
 -- the words after all nine (crush_hashmix)
 unfoldable pub mixed : ℕ → ℕ → ℕ → ℕ × ℕ × ℕ
-mixed a b c = turned 3 10 15 (turned 12 16 5 (turned 13 8 13 (a, b, c)))
+mixed a b c = third 3 10 15 (third 12 16 5 (third 13 8 13 (a, b, c)))
 
 -- what every hash begins from (crush_hash_seed)
 abbrev pub seed : ℕ

@@ -1,7 +1,7 @@
 //! The hashes of three and of four words, four side by side: less than twice the work of one.
 
 ghost use Rattle.std.specs.Prelude.{◌≡◌, ℕ, ◌/◌, ◌^◌, ◌<◌, bit_xor, slice_index};
-ghost use Rattle.rjenkins.specs.Jenkins.{minus, shifted_left, seed, turned, mixed, hash3_of, hash4_of};
+ghost use Rattle.rjenkins.specs.Jenkins.{minus, shifted_left, seed, third, mixed, hash3_of, hash4_of};
 
 use crate::{SEED, X, Y};
 use std::simd::u32x4;
@@ -27,15 +27,15 @@ fn left(k: u32, a: u32x4, b: u32x4, c: u32x4) -> u32x4
     (a - b - c) ^ (c << u32x4::splat(k))
 }
 
-/// One turn of `mix` in each lane: to the right by `shifts.0`, to the left by `shifts.1`, to the right by `shifts.2`.
+/// One third of `mix` in each lane: to the right by `shifts.0`, to the left by `shifts.1`, to the right by `shifts.2`.
 #[inline(always)]
-fn turn(shifts: (u32, u32, u32), a: u32x4, b: u32x4, c: u32x4) -> (u32x4, u32x4, u32x4)
+fn third(shifts: (u32, u32, u32), a: u32x4, b: u32x4, c: u32x4) -> (u32x4, u32x4, u32x4)
     requires right { shifts.0 < 32 }
     requires left { shifts.1 < 32 }
     requires last { shifts.2 < 32 }
     ensures { (j : ℕ) → j < 4
         → (slice_index result.0 j, slice_index result.1 j, slice_index result.2 j)
-        ≡ turned shifts.0 shifts.1 shifts.2 (slice_index a j, slice_index b j, slice_index c j) }
+        ≡ third shifts.0 shifts.1 shifts.2 (slice_index a j, slice_index b j, slice_index c j) }
 {
     let a = right(shifts.0, a, b, c);
     let b = left(shifts.1, b, c, a);
@@ -50,9 +50,9 @@ fn mix(a: u32x4, b: u32x4, c: u32x4) -> (u32x4, u32x4, u32x4)
         → (slice_index result.0 j, slice_index result.1 j, slice_index result.2 j)
         ≡ mixed (slice_index a j) (slice_index b j) (slice_index c j) }
 {
-    let (a, b, c) = turn((13, 8, 13), a, b, c);
-    let (a, b, c) = turn((12, 16, 5), a, b, c);
-    turn((3, 10, 15), a, b, c)
+    let (a, b, c) = third((13, 8, 13), a, b, c);
+    let (a, b, c) = third((12, 16, 5), a, b, c);
+    third((3, 10, 15), a, b, c)
 }
 
 /// One word in each lane.

@@ -4,7 +4,7 @@
 #![tactic(auto)]
 
 ghost use Rattle.std.specs.Prelude.{◌≡◌, ◌<◌};
-ghost use Rattle.rjenkins.specs.Jenkins.{turned, mixed, hash2_of, hash3_of, hash4_of};
+ghost use Rattle.rjenkins.specs.Jenkins.{third, mixed, hash2_of, hash3_of, hash4_of};
 
 mod lanes;
 
@@ -18,14 +18,14 @@ const X: u32 = 231_232;
 
 const Y: u32 = 1_232;
 
-/// One turn of `mix`, three of its nine assignments: to the right by `shifts.0`, to the left by `shifts.1`, to the
+/// One third of `mix`, three of its nine assignments: to the right by `shifts.0`, to the left by `shifts.1`, to the
 /// right by `shifts.2`.
-#[tactic(auto, unfolding(crate::specs::Jenkins::turned))]
-fn turn(shifts: (u32, u32, u32), a: u32, b: u32, c: u32) -> (u32, u32, u32)
+#[tactic(auto, unfolding(crate::specs::Jenkins::third))]
+fn third(shifts: (u32, u32, u32), a: u32, b: u32, c: u32) -> (u32, u32, u32)
     requires right { shifts.0 < 32 }
     requires left { shifts.1 < 32 }
     requires last { shifts.2 < 32 }
-    ensures { result ≡ turned shifts.0 shifts.1 shifts.2 (a, b, c) }
+    ensures { result ≡ third shifts.0 shifts.1 shifts.2 (a, b, c) }
 {
     let a = a.wrapping_sub(b).wrapping_sub(c) ^ (c >> shifts.0);
     let b = b.wrapping_sub(c).wrapping_sub(a) ^ (a << shifts.1);
@@ -38,9 +38,9 @@ fn turn(shifts: (u32, u32, u32), a: u32, b: u32, c: u32) -> (u32, u32, u32)
 pub fn mix(a: u32, b: u32, c: u32) -> (u32, u32, u32)
     ensures { result ≡ mixed a b c }
 {
-    let (a, b, c) = turn((13, 8, 13), a, b, c);
-    let (a, b, c) = turn((12, 16, 5), a, b, c);
-    turn((3, 10, 15), a, b, c)
+    let (a, b, c) = third((13, 8, 13), a, b, c);
+    let (a, b, c) = third((12, 16, 5), a, b, c);
+    third((3, 10, 15), a, b, c)
 }
 
 /// The hash of two words (`crush_hash32_rjenkins1_2`).

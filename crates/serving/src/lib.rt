@@ -7,7 +7,6 @@
 //! - `system`: what a run has of the machine
 //! - `out`: a writer as a sink
 //! - `failure`, `fault`: what of a live session fails, and why nothing is served
-//! - `sharing`, `tests`: what no clause says, and no run of a program shows
 #![tactic(auto)]
 
 mod failure;
@@ -25,8 +24,3 @@ pub use fault::Fault;
 pub use part::{Part, Source, Streams, Target};
 pub use runs::{First, MAX_SCRIPTS, Terms, serve, serve_map};
 pub use system::System;
-
-#[cfg(test)]
-mod sharing;
-#[cfg(test)]
-mod tests;

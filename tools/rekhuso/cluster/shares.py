@@ -67,7 +67,8 @@ class Shares:
         """How many places of a pool the weights of the OSDs call for, tree by tree."""
         found: dict[int, float] = {}
         for weights in self.trees_for(pool):
-            places, total = sum(self.counts_in[pool["id"]][osd] for osd in weights), sum(weights.values())
+            counts, total = self.counts_in[pool["id"]], sum(weights.values())
+            places = sum(count for osd, count in counts.items() if osd in weights)
             found.update({osd: places * weight / total for osd, weight in weights.items()})
         return found
 

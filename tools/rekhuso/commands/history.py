@@ -1,9 +1,9 @@
 """`history`: what changed in a store from epoch to epoch, or with --at the map of one of its epochs.
 
-A store is the file in which `osdmapstore` keeps a map and its changes. It tells of what came since the program was last
-started: a start makes the map that it finds the first one, and begins the changes anew. A copy of the file and of its
-log is read, also while a program has the store open, and nothing is written into them or beside them. The map of an
-epoch is made by the program, change by change.
+A store is the file in which `osdmapstore` keeps a map and its changes: each start of the program leaves the last 1,024
+there, or as many as its option --keep says. A copy of the file and of its log is read, also while a program has the
+store open, and nothing is written into them or beside them. The map of an epoch is made by the program, change by
+change.
 """
 
 from __future__ import annotations

@@ -24,6 +24,7 @@ KEPT_BY = {
     "failure domains": "all emptier OSDs stand in failure domains that have copies already",
     "shares": "its pool or all pools would get far from their shares",
     "sizes": "they would fill another OSD as much",
+    "evenness": "groups or bytes would be less even than before the plan",
     "monitor": "the program or Ceph's monitor would not keep them elsewhere",
 }
 

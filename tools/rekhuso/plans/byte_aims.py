@@ -58,7 +58,7 @@ class ByteAims:
                     held[osd] = held.get(osd, 0) + size
                 for tree in live.before.trees_for(pool):
                     trees.append(tree)
-                    whole, total = sum(own.get(osd, 0) for osd in tree), sum(tree.values())
+                    whole, total = sum(size for osd, size in own.items() if osd in tree), sum(tree.values())
                     for osd, weight in tree.items():
                         want[osd] = want.get(osd, 0.0) + whole * weight / total
         numbers = [number for live in lives for number in live.pools]

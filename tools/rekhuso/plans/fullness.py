@@ -26,6 +26,10 @@ class Fullness:
         """How many times what it is to have an OSD has."""
         return self.load[osd] / self.want[osd]
 
+    def fullest(self) -> float:
+        """The greatest ratio; 0 where no OSD is to have anything."""
+        return max(map(self.ratio, self.wanting), default=0.0)
+
     def osds(self) -> list[int]:
         """The OSDs that are to have something."""
         return self.wanting

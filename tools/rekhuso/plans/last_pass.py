@@ -4,27 +4,34 @@ move after the other, until the fullest is near its share.
 A move is that of a place, of any pool, by which the sum of want * (ratio - 1) ** 2 over all OSDs falls most, and after
 which the OSD that gets it is less full than the other was before. So the fullest OSD never gets fuller, and any
 beginning of the pass is a plan. Where no move is left that takes something from an OSD, two groups change places. Pools
-stay near their shares, and so do all pools together.
+stay near their shares, and so do all pools together; for the sake of OSDs that stay far above theirs they may get
+further, as long as nothing gets less even than it was before the plan.
 """
 
 from __future__ import annotations
 
 from bisect import bisect_left
 from collections.abc import Callable, Iterable, Iterator
+from dataclasses import replace
 from itertools import islice
 
+from ..cluster.evenness import Spread, sums_by_osd
+from ..cluster.pool_data import BYTE_PARTS
 from ..program.maps import entries_of, groups_in
 from .blocks import MapBlocks
 from .byte_aims import ByteAims
 from .fullness import Fullness
 from .loads import GROUP_PARTS
+from .mend import Gauge
 from .pool_places import PoolPlaces
 from .rounds import Live, Planner
 from .single_moves import moved, take_back
 
-# By how much the fullest OSD may be above its share, and how far a pool and all pools together may get from their
-# shares, in groups.
-NEAR, POOL, ALL_POOLS = 0.05, 2, 3
+# By how much the fullest OSD may be above its share; and how far a pool and all pools together may get from their
+# shares, in parts of a group. For the sake of OSDs that stay further above their shares they may get as far as the
+# others, or as far as they were before the plan.
+NEAR, FAR = 0.05, 0.1
+POOL, ALL_POOLS, FAR_POOL, FAR_ALL_POOLS = (GROUP_PARTS * groups for groups in (2, 3, 4, 5))
 # To how many of the emptiest OSDs a group may go at first, rather than to any; how many groups, and how many exchanges
 # are tried; and how many of the sizes that are nearest to the best one.
 FEW, GROUPS, TRIED, NEAREST = 32, 3, 64, 2
@@ -53,10 +60,15 @@ def pools_in(live: Live, fixed: Iterable[str]) -> Iterator[PoolPlaces]:
 
 
 def is_near(more: int, less: int, most: int) -> bool:
-    """Whether two OSDs that have so many parts of a group above their shares get nearer to these, or stay within so
-    many groups of them, where a group goes from the first to the second.
+    """Whether two OSDs that have so many parts of a group above their shares get nearer to these, or together no
+    further, or stay within so many parts of them, where a group goes from the first to the second.
     """
-    return more - less > GROUP_PARTS or (less <= (most - 1) * GROUP_PARTS and more >= (1 - most) * GROUP_PARTS)
+    return more - less >= GROUP_PARTS or (less <= most - GROUP_PARTS and more >= GROUP_PARTS - most)
+
+
+def farthest(parts: Iterable[int]) -> int:
+    """How far the farthest OSD is from its share, by how far each is above its own."""
+    return max((abs(own) for own in parts), default=0)
 
 
 class LastPass:
@@ -66,7 +78,7 @@ class LastPass:
 
     def __init__(self, planner: Planner, aims: ByteAims) -> None:
         """Takes the pools as they have been planned, and what their groups hold and OSDs are to hold."""
-        self.laid, self.full, self.above = planner.laid, Fullness(aims.want), dict[int, int]()
+        self.laid, self.aims, self.full, self.above = planner.laid, aims, Fullness(aims.want), dict[int, int]()
         self.pools = {own.number: own for live in planner.lives for own in pools_in(live, planner.left)}
         for number, own in self.pools.items():
             own.sizes = aims.sizes[number]
@@ -76,8 +88,11 @@ class LastPass:
         self.full.add(aims.base)
         movable = [self.pools[number] for number in planner.order]
         self.movable = [own for own in movable if own.blocks and not own.is_barred()]
+        self.most, self.most_all = dict.fromkeys(self.pools, POOL), ALL_POOLS
+        self.is_far, self.gauges = False, list[Gauge]()
         self.ranked: list[int] = []
         self.kept: dict[tuple[int, int], dict[int, set[int]]] = {}
+        self.kept_closed: dict[tuple[int, int], set[int]] = {}
         self.shut: set[tuple[int, int, int, int]] = set()
         self.moves: list[str] = []
 
@@ -87,11 +102,42 @@ class LastPass:
         """Whether a pool stays near its shares, or gets nearer, where a group goes from an OSD to another."""
         shares, counts = self.laid[number].shares, self.laid[number].counts
         more, less = (counts.get(osd, 0) * GROUP_PARTS - shares[osd] for osd in (leaves, comes))
-        return is_near(more, less, POOL)
+        return is_near(more, less, self.most[number])
 
     def keeps_all(self, leaves: int, comes: int) -> bool:
         """The same of all pools together."""
-        return is_near(self.above[leaves], self.above[comes], ALL_POOLS)
+        return is_near(self.above[leaves], self.above[comes], self.most_all)
+
+    def stays_even(self, leaves: int, comes: int, groups: int, size: int) -> bool:
+        """Whether by groups and by bytes all stays as even as it was before the plan, or gets no less even than it is,
+        where so many groups more, and so much more, go from an OSD to another than come back; asked for the sake of
+        OSDs far above their shares alone.
+        """
+        return all(gauge.lets(leaves, comes, own) for gauge, own in zip(self.gauges, (groups, size / BYTE_PARTS)))
+
+    def gauges_now(self) -> list[Gauge]:
+        """How even the cluster is by groups and by bytes, beside how even it was before the plan."""
+        before = {number: own.live.before for number, own in self.pools.items()}
+        counts, shares = (
+            sums_by_osd({number: own.counts_in[number] for number, own in before.items()}),
+            sums_by_osd({number: own.shares_by[number] for number, own in before.items()}),
+        )
+        groups, used = Gauge(Spread(counts, shares), None, False), Gauge(self.aims.spread(), None, True)
+        groups.put(sums_by_osd({number: self.laid[number].counts for number in self.pools}))
+        used.put({osd: load / BYTE_PARTS for osd, load in self.full.load.items()})
+        return [groups, used]
+
+    def go_far(self) -> None:
+        """From now on it is for the OSDs that stay far above their shares, and for their sake pools may get further
+        from theirs.
+        """
+        self.is_far, self.gauges, above = True, self.gauges_now(), dict[int, int]()
+        for number, own in self.pools.items():
+            parts = replace(self.laid[number], counts=own.live.before.counts_in[number]).deviations()
+            self.most[number] = max(FAR_POOL, farthest(parts.values()))
+            for osd, more in parts.items():
+                above[osd] = above.get(osd, 0) + more
+        self.most_all = max(FAR_ALL_POOLS, farthest(above.values()))
 
     def leaving(self, own: PoolPlaces, osd: int) -> dict[int, set[int]]:
         """The groups of a pool that may go from an OSD, each with the failure domains to which it may not go. What is
@@ -101,6 +147,13 @@ class LastPass:
         if key not in self.kept:
             self.kept[key] = own.leaving(osd)
         return self.kept[key]
+
+    def closed(self, own: PoolPlaces, osd: int) -> set[int]:
+        """The failure domains to which no group of a pool may go from an OSD that has some which may go."""
+        key = own.number, osd
+        if key not in self.kept_closed:
+            self.kept_closed[key] = set.intersection(*self.leaving(own, osd).values())
+        return self.kept_closed[key]
 
     def emptier(self, own: PoolPlaces, full: int) -> list[int]:
         """The OSDs emptier than another in place of which the rule of a pool might have chosen them, failure domains
@@ -116,7 +169,7 @@ class LastPass:
         leaving = self.leaving(own, full)
         if block is None or full not in shares or not leaving:
             return []
-        closed, domains = set.intersection(*leaving.values()), block.domains
+        closed, domains = self.closed(own, full), block.domains
         there = (osd for osd in self.ranked if osd in shares and block.is_beside(full, osd))
         return [osd for osd in islice(there, few) if domains[osd] not in closed and self.full.ratio(osd) < ratio]
 
@@ -133,7 +186,8 @@ class LastPass:
                 continue
             for osd in self.near(own, full, few):
                 if self.keeps(own.number, full, osd) and self.keeps_all(full, osd):
-                    found += [(-self.full.gain(full, osd, size), own.number, osd, size) for size in sizes]
+                    even = (size for size in sizes if self.stays_even(full, osd, 1, size))
+                    found += [(-self.full.gain(full, osd, size), own.number, osd, size) for size in even]
             best = max(best, -min(found, default=(0.0,))[0])
         return sorted(way for way in found if way[0] < -floor)
 
@@ -163,7 +217,7 @@ class LastPass:
                 at = bisect_left(less, size - best)
                 for own in less[max(at - NEAREST, 0) : at + NEAREST]:
                     gain = self.full.gain(full, osd, size - own)
-                    if gain > 0:
+                    if gain > 0 and self.stays_even(full, osd, 0, size - own):
                         yield -gain, number, osd, size, other, own
 
     def back_to(self, full: int, osd: int) -> Iterator[Back]:
@@ -206,11 +260,14 @@ class LastPass:
         """Counts a group where it has gone."""
         counts, totals = self.laid[own.number].counts, own.live.totals
         self.kept.clear()
+        self.kept_closed.clear()
         self.full.move(leaves, comes, own.sizes[group])
         for osd, more in ((leaves, -1), (comes, 1)):
             counts[osd] = counts.get(osd, 0) + more
             totals[osd] = totals.get(osd, 0) + more
             self.above[osd] += more * GROUP_PARTS
+        for gauge, own_size in zip(self.gauges, (1, own.sizes[group] / BYTE_PARTS)):
+            gauge.move(leaves, comes, own_size)
         self.shut = {entry for entry in self.shut if entry[:2] != (own.number, group)}
         self.moves.append(own.name(group))
 
@@ -240,22 +297,26 @@ class LastPass:
         """The fullest OSD that is not near its share, of several the lowest; None where there is none but those that
         are stuck.
         """
-        bound = 1 + NEAR
+        bound = 1 + (FAR if self.is_far else NEAR)
         left = [(-self.full.ratio(osd), osd) for osd in self.full.osds() if osd not in stuck]
         worst = min(left, default=(0.0, 0))
         return worst[1] if -worst[0] > bound else None
 
     def play(self, tell: Callable[[str], None]) -> None:
         """Makes moves until the fullest OSD from which anything can be taken is near its share. What nothing could be
-        taken from is tried again at the end, where there have been moves since.
+        taken from is tried again at the end, where there have been moves since; then once more, with pools that may get
+        further from their shares.
         """
         stuck: set[int] = set()
         since = len(self.moves)
         while True:
             full = self.fullest(stuck)
             if full is None:
-                if not stuck or since == len(self.moves):
+                is_done = not stuck or since == len(self.moves)
+                if is_done and (self.is_far or self.full.fullest() <= 1 + FAR):
                     return
+                if is_done:
+                    self.go_far()
                 stuck, since = set(), len(self.moves)
                 continue
             tell(f"last pass: {len(self.moves)} moves, osd.{full} at {self.full.ratio(full):.2f} of its share")

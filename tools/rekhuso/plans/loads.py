@@ -38,8 +38,10 @@ class Laid:
 
     def deviations(self, most: int | None = None) -> dict[int, int]:
         """How far each OSD is above its share or, negative, below it; at most so many parts, where these are given."""
-        counts = self.counts
-        found = {osd: counts.get(osd, 0) * GROUP_PARTS - share for osd, share in self.shares.items()}
+        found = {osd: -share for osd, share in self.shares.items()}
+        for osd, groups in self.counts.items():
+            if osd in found:
+                found[osd] += groups * GROUP_PARTS
         if most is None:
             return found
         return {osd: -most if own < -most else most if own > most else own for osd, own in found.items()}
@@ -49,7 +51,7 @@ def shares_of(trees: Iterable[Mapping[int, int]], counts: Mapping[int, int]) -> 
     """The shares of OSDs by their weights: each tree's groups are shared among its own OSDs."""
     found: dict[int, int] = {}
     for weights in trees:
-        groups, total = sum(counts.get(osd, 0) for osd in weights), sum(weights.values())
+        groups, total = sum(count for osd, count in counts.items() if osd in weights), sum(weights.values())
         found.update({osd: groups * weight * GROUP_PARTS // total for osd, weight in weights.items()})
     return found
 
@@ -78,8 +80,8 @@ class Loads:
     def __init__(self, pools: Mapping[int, Laid], later: Iterable[int], most: int) -> None:
         """Takes pools by their numbers, which of them are still to be planned, and the parts that a plan leaves."""
         self.pools, self.later = pools, set(later)
-        self.groups: dict[int, int] = {}
-        self.data: dict[int, int] = {}
+        self.groups = {osd: 0 for pool in pools.values() for osd in pool.shares}
+        self.data = dict(self.groups)
         self.own = {number: pool.deviations(most if number in self.later else None) for number, pool in pools.items()}
         for number, own in self.own.items():
             self.add(number, own)
@@ -88,8 +90,8 @@ class Loads:
         """So many parts more of a pool count on OSDs."""
         groups, data, place = self.groups, self.data, self.pools[number].place
         for osd, parts in more.items():
-            groups[osd] = groups.get(osd, 0) + parts
-            data[osd] = data.get(osd, 0) + parts * place
+            groups[osd] += parts
+            data[osd] += parts * place
 
     def put(self, number: int, moved: Mapping[int, int]) -> None:
         """A pool has so many groups more on OSDs that may have some, and from now on it counts as it lies."""

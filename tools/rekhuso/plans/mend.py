@@ -17,9 +17,9 @@ from .steps import PlanStep
 ROUNDING = 1e-9
 
 
-class Gauge:
-    """One measure of a cluster while steps are taken out: what the OSDs have, and the sum of the squares of how far
-    they are from their shares, each by its scale.
+class Squares:
+    """What OSDs have while steps are taken out, and the squares of how far they are from their shares, each by its
+    scale.
     """
 
     def __init__(self, before: Spread, sizes: Mapping[str, float] | None, is_relative: bool) -> None:
@@ -27,32 +27,53 @@ class Gauge:
         is counts as a part of its share.
         """
         self.has, self.share, self.sizes = dict(before.has), before.share, sizes
-        self.scale = {osd: 1 / before.share[osd] if is_relative else 1.0 for osd in before.osds()}
-        self.fullest = before.fullest() * (1 + ROUNDING)
-        self.squares = self.before = sum(self.square(osd, 0.0) for osd in self.scale)
-
-    def square(self, osd: int, more: float) -> float:
-        """The square of how far an OSD is from its share, once so much more is on it."""
-        if osd not in self.scale:
-            return 0.0
-        return ((self.has.get(osd, 0) + more - self.share[osd]) * self.scale[osd]) ** 2
+        self.scale = {osd: 1 / own if is_relative else 1.0 for osd, own in before.share.items() if own > 0}
 
     def size(self, step: PlanStep) -> float:
         """What a place of a step's group counts."""
         return 1.0 if self.sizes is None else self.sizes[step.group]
 
+    def rise(self, pairs: Iterable[tuple[int, float]]) -> float:
+        """By how much the sum of squares rises where so much more is on OSDs."""
+        total = 0.0
+        for osd, more in pairs:
+            scale = self.scale.get(osd)
+            if scale is not None:
+                has, share = self.has.get(osd, 0), self.share[osd]
+                total += ((has + more - share) * scale) ** 2 - ((has - share) * scale) ** 2
+        return total
+
     def gain(self, step: PlanStep, sign: int) -> float:
         """By how much the sum of squares rises where a step is taken (1), or taken out (-1)."""
         size = sign * self.size(step)
-        pairs = [(osd, size) for osd in step.comes()] + [(osd, -size) for osd in step.leaves()]
-        return sum(self.square(osd, more) - self.square(osd, 0.0) for osd, more in pairs)
+        return self.rise([(osd, size) for osd in step.comes()] + [(osd, -size) for osd in step.leaves()])
+
+    def take(self, step: PlanStep, sign: int) -> None:
+        """Takes a step, or takes it out."""
+        size = sign * self.size(step)
+        for osds, more in ((step.comes(), size), (step.leaves(), -size)):
+            for osd in osds:
+                self.has[osd] = self.has.get(osd, 0) + more
+
+
+class Gauge(Squares):
+    """One measure of a cluster while steps are taken out: what the OSDs have, and the sum of the squares."""
+
+    def __init__(self, before: Spread, sizes: Mapping[str, float] | None, is_relative: bool) -> None:
+        """Takes the same."""
+        super().__init__(before, sizes, is_relative)
+        self.fullest = before.fullest() * (1 + ROUNDING)
+        self.squares = self.before = self.sum()
+
+    def sum(self) -> float:
+        """The sum of the squares of how far OSDs are from their shares."""
+        squares = (((self.has.get(osd, 0) - self.share[osd]) * self.scale[osd]) ** 2 for osd in sorted(self.scale))
+        return sum(squares)
 
     def take(self, step: PlanStep, sign: int) -> None:
         """Takes a step, or takes it out."""
         self.squares += self.gain(step, sign)
-        for osds, more in ((step.comes(), sign), (step.leaves(), -sign)):
-            for osd in osds:
-                self.has[osd] = self.has.get(osd, 0) + more * self.size(step)
+        super().take(step, sign)
 
     def over(self) -> set[int]:
         """The OSDs that are fuller than the fullest was."""
@@ -69,6 +90,25 @@ class Gauge:
     def is_less_even(self) -> bool:
         """Whether the sum of squares is greater than before."""
         return self.squares > self.before * (1 + ROUNDING) + ROUNDING
+
+    def put(self, has: Mapping[int, float]) -> None:
+        """OSDs have so much now."""
+        self.has = dict(has)
+        self.squares = self.sum()
+
+    def move(self, leaves: int, comes: int, size: float) -> None:
+        """So much goes from an OSD to another."""
+        self.squares += self.rise([(leaves, -size), (comes, size)])
+        self.has[leaves] = self.has.get(leaves, 0) - size
+        self.has[comes] = self.has.get(comes, 0) + size
+
+    def lets(self, leaves: int, comes: int, size: float) -> bool:
+        """Whether so much may go from an OSD to another: the one that gets it is then no fuller than the fullest was,
+        and the sum of squares is no greater than before, or no greater than it is.
+        """
+        rise = self.rise([(leaves, -size), (comes, size)])
+        is_even = rise <= 0 or self.squares + rise <= self.before * (1 + ROUNDING)
+        return is_even and self.worst_of([comes], size) <= self.fullest
 
 
 class Mender:

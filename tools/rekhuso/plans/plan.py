@@ -22,6 +22,7 @@ from ..values import SLOTS
 from .bounds import Measure
 from .byte_aims import ByteAims
 from .byte_rounds import Passed, planned_by_data
+from .hindrances import hindrances_by_mending
 from .json_forms import ClusterParts, DataParts, HindranceParts, PlanParts
 from .measures import Measures, counts_after, pool_spread
 from .mend import mended
@@ -237,8 +238,9 @@ def planned(lives: list[Live], wish: Wish, tell: Callable[[str], None] = silent)
     if wish.is_alone:
         return outcome_of(measures, wanted, made, batches(kept, wish.batch), without(made.steps, kept), {})
     taken_out = without(made.steps, kept)
-    if aims is not None and aims.is_whole and not wish.is_room:
-        kept = spared(measures, kept, made.first, wish.half() / 256)
+    if aims is not None and aims.is_whole:
+        made = replace(made, stays={**hindrances_by_mending(lives, aims, made.steps, kept), **made.stays})
+        kept = kept if wish.is_room else spared(measures, kept, made.first, wish.half() / 256)
     order = order_of_steps(measures, kept, made.first, wish.nearfull)
     parts = ordered_parts(order, wish.most, wish.batch)
     found = outcome_of(measures, wanted, made, parts, taken_out, order.stopped())

@@ -4,7 +4,7 @@ The scheme lowers one sum: that of the squares of all deviations of the pools, o
 times those of the data, in places of the mean size. A move is made only between OSDs that differ by more than twice a
 deviation D, and so lowers the sum by more than 4 D - 2. Later moves, of other pools, may leave an earlier one worth
 less. Such steps are left out, the one that gains least first, where by it no OSD gets fuller than the fullest is, or
-by data than the last pass leaves one, and nothing is less even than before the plan.
+by data than the last pass leaves one that it need not leave, and nothing is less even than before the plan.
 """
 
 from __future__ import annotations
@@ -13,10 +13,10 @@ from collections.abc import Collection, Sequence
 from heapq import heappop
 
 from ..cluster.evenness import Spread
-from .last_pass import NEAR
+from .last_pass import FAR, NEAR
 from .loads import WEIGHT
 from .measures import Measures
-from .mend import Gauge, Mender, ROUNDING
+from .mend import Mender, ROUNDING, Squares
 from .steps import PlanStep
 
 
@@ -29,12 +29,13 @@ class Spare(Mender):
         """Takes the measures before the plan, what OSDs have in bytes then, the steps, and groups whose steps stay."""
         super().__init__(measures.gauges(), steps)
         self.first = first
-        self.data, self.weight = Gauge(used, measures.sizes, False), WEIGHT / measures.mean_place() ** 2
-        self.pools = {number: Gauge(measures.groups_in(number), None, False) for number in measures.pools}
+        self.data, self.weight = Squares(used, measures.sizes, False), WEIGHT / measures.mean_place() ** 2
+        self.pools = {number: Squares(measures.groups_in(number), None, False) for number in measures.pools}
         for step in steps:
             self.data.take(step, 1)
             self.pools[step.pool].take(step, 1)
-        self.most = [max(gauge.worst(), bound) for gauge, bound in zip(self.gauges, (0.0, 1 + NEAR))]
+        groups, data = (gauge.worst() for gauge in self.gauges)
+        self.most = [groups, min(max(data, 1 + NEAR), 1 + FAR)]
         self.rank(self.left)
 
     def harm(self, group: str) -> float:

@@ -2,7 +2,7 @@
 
 from __future__ import annotations
 
-from dataclasses import dataclass
+from dataclasses import dataclass, field
 
 from ..cluster.difference import exception_commands
 from ..cluster.moving import coming, erasure_pools, has_moved, leaving
@@ -25,6 +25,12 @@ class PlanStep:
     was: list[int | None]
     now: list[int | None]
     is_erasure: bool
+    # The OSDs from which the group goes, and those to which it comes: they are asked for often.
+    moved: tuple[list[int], list[int]] = field(init=False, repr=False, compare=False)
+
+    def __post_init__(self) -> None:
+        """Ask once from where to where the group goes."""
+        object.__setattr__(self, "moved", (leaving(self.was, self.now, False), coming(self.was, self.now, False)))
 
     @property
     def pool(self) -> int:
@@ -33,11 +39,11 @@ class PlanStep:
 
     def leaves(self) -> list[int]:
         """The OSDs from which the group goes."""
-        return leaving(self.was, self.now, False)
+        return self.moved[0]
 
     def comes(self) -> list[int]:
         """The OSDs to which it comes."""
-        return coming(self.was, self.now, False)
+        return self.moved[1]
 
     def places_leave(self) -> list[int]:
         """The OSDs from which places of it go; in an erasure pool one may have got another place of it."""

@@ -36,7 +36,7 @@ impl ToJson for Pair {
     ghost written = { pair_data };
 
     fn to_json(&self, alloc: Global) -> Result<Value, AllocError> {
-        json!(in alloc; [self.from, self.to])
+        json!(in alloc; [u32::from(self.from), u32::from(self.to)])
     }
 }
 

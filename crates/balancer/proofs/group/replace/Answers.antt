@@ -4,10 +4,10 @@ use Rattle.balancer.proofs.group.replace.Goals as goal
 
 pub returns-in_default : goal.returns-in_default
 returns-in_default c =
-    let nowhere = rw c.as_slice.ensures.value at (sym c.place_of.ensures ∙ c.in_default.is) in
+    let nowhere = rw (c.as_slice.ensures.value, c.from.ensures) at (sym c.place_of.ensures ∙ c.in_default.is) in
     sym (replaced_nowhere c.args.pair _ nowhere)
 
 pub returns-in-Some : goal.returns-in-Some
 returns-in-Some c =
-    let at = rw c.as_slice.ensures.value at (sym c.place_of.ensures ∙ c.in-Some.is) in
-    c.set.ensures ∙ sym (replaced_at c.args.pair c.args.places.now c.in-Some.place at)
+    let at = rw (c.as_slice.ensures.value, c.from.ensures) at (sym c.place_of.ensures ∙ c.in-Some.is) in
+    (rw c.from-in-Some.ensures at c.set.ensures) ∙ sym (replaced_at c.args.pair c.args.places.now c.in-Some.place at)

@@ -1,10 +1,11 @@
-use Rattle.std.proofs.Common.{◌≡◌, inl, true, refl, sym, subst, rules, arith, ap}
+use Rattle.std.proofs.Common.{◌≡◌, inl, true, map, refl, sym, subst, rules, arith, ap}
 use Rattle.sqlite.specs.Tree.{Trees}
 use Rattle.sqlite.specs.State.{HasCleanDisk, Survives}
 use Rattle.sqlite.specs.Held.{state}
 use Rattle.sqlite.proofs.StateLemmas.{survives_then}
 use Rattle.sqlite.proofs.Callers.{survives_begin}
-use Rattle.journalstore.specs.Texts.{Texts, begun_with, StandsFor}
+use Rattle.journalstore.specs.Texts.{Texts, cut_to, StandsFor}
+use Rattle.journalstore.specs.Read.{entry_read}
 use Rattle.journalstore.specs.Stores.{IsInWriting, IsRunning, IsOf, HoldsIn, KeepsIn}
 use Rattle.journalstore.proofs.KeepLemmas.{failed_texts}
 use Rattle.journalstore.proofs.StoreLemmas.{leaves_held, crash_with}
@@ -18,18 +19,18 @@ pub returns-in_err-write-clause-crash : goal.returns-in_err-write-clause-crash
 returns-in_err-write-clause-crash g c t holds =
     let old = c.args.conn.now in
     let last = c.write.new.tx.conn.now in
-    let P = λ (db : Trees). StandsFor db (begun_with c.args.epoch c.args.text.now) in
+    let P = λ (db : Trees). StandsFor db (cut_to c.args.epoch c.args.text.now (map entry_read c.args.kept.now)) in
     let inside : Survives (state g.S.Store (record old { in_transaction = true })) (state g.S.Store last) (λ _. ⊥) = rw c.transaction-tx.ensures.begun at c.write.ensures.survives in
     let whole = survives_then (state g.S.Store old) (state g.S.Store last) (state g.S.Store c.drop-tx.new.self.0) _ _ P (λ _ db none. absurd none) (λ _ db none. absurd none)
     (survives_begin g.S.Store old (state g.S.Store last) _ inside) c.drop-tx.ensures.survives in
     let same : c.drop-tx.new.self.0 ≡ c.conn-1.given.0 = search rules in
-    crash_with (state g.S.Store old) (state g.S.Store c.conn-1.given.0) t (begun_with c.args.epoch c.args.text.now) holds.2 (subst (λ h. Survives (state g.S.Store old) (state g.S.Store h) P) same whole)
+    crash_with (state g.S.Store old) (state g.S.Store c.conn-1.given.0) t (cut_to c.args.epoch c.args.text.now (map entry_read c.args.kept.now)) holds.2 (subst (λ h. Survives (state g.S.Store old) (state g.S.Store h) P) same whole)
 
 pub returns-in_err-commit-clause-crash : goal.returns-in_err-commit-clause-crash
 returns-in_err-commit-clause-crash g c t holds =
     let old = c.args.conn.now in
     let last = c.write.new.tx.conn.now in
-    let more = begun_with c.args.epoch c.args.text.now in
+    let more = cut_to c.args.epoch c.args.text.now (map entry_read c.args.kept.now) in
     let P = λ (db : Trees). StandsFor db more in
     let writing : IsInWriting (state g.S.Store c.transaction-tx.result.conn.now) = subst (λ h. IsInWriting (state g.S.Store h)) (sym c.transaction-tx.ensures.begun) (λ clean. (refl, (holds.1 clean (holds.0 clean)).settled.schema)) in
     let inside : Survives (state g.S.Store (record old { in_transaction = true })) (state g.S.Store last) (λ _. ⊥) = rw c.transaction-tx.ensures.begun at c.write.ensures.survives in
@@ -42,7 +43,7 @@ pub returns-clause-crash : goal.returns-clause-crash
 returns-clause-crash g c t holds =
     let old = c.args.conn.now in
     let last = c.write.new.tx.conn.now in
-    let more = begun_with c.args.epoch c.args.text.now in
+    let more = cut_to c.args.epoch c.args.text.now (map entry_read c.args.kept.now) in
     let P = λ (db : Trees). StandsFor db more in
     let writing : IsInWriting (state g.S.Store c.transaction-tx.result.conn.now) = subst (λ h. IsInWriting (state g.S.Store h)) (sym c.transaction-tx.ensures.begun) (λ clean. (refl, (holds.1 clean (holds.0 clean)).settled.schema)) in
     let inside : Survives (state g.S.Store (record old { in_transaction = true })) (state g.S.Store last) (λ _. ⊥) = rw c.transaction-tx.ensures.begun at c.write.ensures.survives in
@@ -73,6 +74,6 @@ returns-in_err-commit-clause-kept g c =
 pub returns-clause-cut : goal.returns-clause-cut
 returns-clause-cut g c t holds =
     let new = state g.S.Store c.conn-2-1.given.0 in
-    let more = begun_with c.args.epoch c.args.text.now in
+    let more = cut_to c.args.epoch c.args.text.now (map entry_read c.args.kept.now) in
     let both : IsRunning new × IsOf new more = search rules in
     (both.0, both.1, leaves_held new more (g.met.S.Store.settled c.conn-2-1.given.0.store) both.0 both.1)

@@ -5,8 +5,8 @@ use Rattle.std.proofs.lemmas.Int.{to_z-of_z}
 use Rattle.balancer.specs.Shares.{aim_of}
 use Rattle.balancer.specs.Greedy.{after_moves}
 use Rattle.balancer.proofs.SearchCovers.{candidate_at, all_more_from, all_end, same_best}
-use Rattle.balancer.proofs.BestCovers.{chosen, osd_in}
-use Rattle.balancer.proofs.BoundsOfMoves.{known_bound, covered_bound, bounds_more}
+use Rattle.balancer.proofs.BestCovers.{chosen}
+use Rattle.balancer.proofs.BoundsOfMoves.{known_bound, bounds_more}
 use Rattle.balancer.proofs.board.Board.find_best.Goals as goal
 
 pub can_skip-requires-clause-bound : goal.can_skip-requires-clause-bound
@@ -17,6 +17,12 @@ can_skip-requires-clause-bound c =
 
 pub find_better_from-best-requires-clause-from : goal.find_better_from-best-requires-clause-from
 find_better_from-best-requires-clause-from c =
+    let b = c.args.self.now in
+    let inside : c.loop-from.from-index < length b.frame.osds.items = rw c.deref-from-items.ensures.value at c.loop-from-test.true in
+    rw c.deref-from-items.ensures.value (candidate_at b.frame.map.now.map b.frame.pool b.frame.osds.items c.loop-from.from-index b.frame.osds_are inside)
+
+pub bound-requires-clause-from : goal.bound-requires-clause-from
+bound-requires-clause-from c =
     let b = c.args.self.now in
     let inside : c.loop-from.from-index < length b.frame.osds.items = rw c.deref-from-items.ensures.value at c.loop-from-test.true in
     rw c.deref-from-items.ensures.value (candidate_at b.frame.map.now.map b.frame.pool b.frame.osds.items c.loop-from.from-index b.frame.osds_are inside)
@@ -39,12 +45,12 @@ loop-from-preserved c =
     let n = after_moves b.frame.map.now.map b.frame.pool b.moves.items in
     let inside : c.loop-from.from-index < length b.frame.osds.items = rw c.deref-from-items.ensures.value at c.loop-from-test.true in
     let covers = c.find_better_from-best.ensures.covers in
-    let fits : SFits w128 c.best_gap.result = search rules in
+    let fits : SFits w128 c.bound.result = search rules in
     record {
       good = c.find_better_from-best.ensures.better.good;
       covers = all_more_from n b.frame.pool (aim_of b.frame.carried.now b.frame.apart) c.loop-from.best c.find_better_from-best.result b.frame.osds.items b.frame.osds.items c.loop-from.from-index inside c.find_better_from-best.ensures.better c.loop-from.invariant.covers (rw c.deref-from-items.ensures.value at covers);
       marks = c.find_better_from-best.ensures.marks;
-      widths = rw (c.set.ensures, to_z-of_z w128 c.best_gap.result fits, c.best_gap.ensures) (bounds_more n b.frame.pool (aim_of b.frame.carried.now b.frame.apart) c.loop-from.widths _ _ (covered_bound n b.frame.pool (aim_of b.frame.carried.now b.frame.apart) b.frame.osds.items _ c.find_better_from-best.result (osd_in b.frame.map.now.map b.frame.pool (aim_of b.frame.carried.now b.frame.apart) b.moves.items b.frame.osds.items b.frame.osds_are) covers) c.loop-from.invariant.widths);
+      widths = rw (c.set.ensures, to_z-of_z w128 c.bound.result fits) (bounds_more n b.frame.pool (aim_of b.frame.carried.now b.frame.apart) c.loop-from.widths _ _ c.bound.ensures c.loop-from.invariant.widths);
     }
 
 pub returns-clause-best : goal.returns-clause-best

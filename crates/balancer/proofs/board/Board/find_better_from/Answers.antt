@@ -43,6 +43,6 @@ loop-to-preserved-then-is_shut c =
       covers = order_more n b.frame.pool (aim_of b.frame.carried.now b.frame.apart) c.loop-to.best c.loop-to.best c.args.from c.args.order.now c.loop-to.to-index e c.loop-to-test.true
           (get_or_default c.args.order.now c.loop-to.to-index (pos 0, 0) e c.loop-to-test.true) (same_best n b.frame.pool (aim_of b.frame.carried.now b.frame.apart) c.loop-to.best c.loop-to.invariant.better.good) c.loop-to.invariant.covers
           (none_covers b.frame.map.now.map b.frame.pool (aim_of b.frame.carried.now b.frame.apart) b.moves.items b.groups.items b.deviations.items b.board c.args.from e.1 c.loop-to.best
-          (c.loop-to.invariant.marks c.args.from e.1 (candidate_below b.frame.map.now.map b.frame.pool e.1 (c.requires.order.candidates c.loop-to.to-index (pos 0, 0) c.loop-to-test.true)) (sym c.is_shut.ensures.value ∙ c.if-is_shut.true)));
+          (c.loop-to.invariant.marks.known c.args.from e.1 (candidate_below b.frame.map.now.map b.frame.pool e.1 (c.requires.order.candidates c.loop-to.to-index (pos 0, 0) c.loop-to-test.true)) (sym c.is_shut.ensures ∙ c.if-is_shut.true)));
       marks = c.loop-to.invariant.marks;
     }

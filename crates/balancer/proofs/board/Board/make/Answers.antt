@@ -6,7 +6,7 @@ use Rattle.std.proofs.lemmas.Int.{to_z-of_z}
 use Rattle.balancer.specs.Shares.{aim_of, group_weight}
 use Rattle.balancer.proofs.MovesMakeEven.{reached_more}
 use Rattle.balancer.proofs.RowsOfGroups.{rows_kept, rows_moved}
-use Rattle.balancer.proofs.StoredMoves.{read_less, read_more, group_inside, group_room, from_inside, to_inside, from_fits, to_fits, board_made}
+use Rattle.balancer.proofs.StoredMoves.{read_less, read_more, group_inside, group_room, ends_few, from_inside, to_inside, from_fits, to_fits, board_made}
 use Rattle.balancer.proofs.board.Board.make.Goals as goal
 
 pub index-requires : goal.index-requires
@@ -15,10 +15,15 @@ index-requires c =
     let inside = group_inside b.frame.map.now.map b.frame.pool (aim_of b.frame.carried.now b.frame.apart) b.moves.items c.args.step b.groups.items b.deviations.items c.requires b.reached b.board b.frame.pool_is b.frame.weight b.frame.weight_is b.frame.weight_small b.frame.carried_small in
     omega (arith, inside, b.groups.ok.0)
 
-pub move_group-group-requires : goal.move_group-group-requires
-move_group-group-requires c =
+pub move_group-group-requires-clause-room : goal.move_group-group-requires-clause-room
+move_group-group-requires-clause-room c =
     let b = c.args.self.now in
     group_room b.frame.map.now.map b.frame.pool (aim_of b.frame.carried.now b.frame.apart) b.moves.items c.args.step b.groups.items b.deviations.items c.requires b.reached b.board b.frame.pool_is b.frame.weight b.frame.weight_is b.frame.weight_small b.frame.carried_small c.index.result.now c.index.ensures
+
+pub move_group-group-requires-clause-ends : goal.move_group-group-requires-clause-ends
+move_group-group-requires-clause-ends c =
+    let b = c.args.self.now in
+    ends_few b.frame.map.now.map b.frame.pool (aim_of b.frame.carried.now b.frame.apart) b.moves.items c.args.step b.groups.items b.deviations.items c.requires b.reached b.board b.frame.pool_is b.frame.weight b.frame.weight_is b.frame.weight_small b.frame.carried_small
 
 pub index_mut-requires : goal.index_mut-requires
 index_mut-requires c =

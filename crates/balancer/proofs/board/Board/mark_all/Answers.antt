@@ -1,8 +1,8 @@
 use Rattle.balancer.proofs.OsdsNoneLeaves.{none_leaves}
-use Rattle.balancer.proofs.MarksHold.{shut_marked}
+use Rattle.balancer.proofs.MarksHold.{all_marked}
 use Rattle.balancer.proofs.board.Board.mark_all.Goals as goal
 
-pub loop-other-preserved : goal.loop-other-preserved
-loop-other-preserved c =
+pub loop-domain-preserved : goal.loop-domain-preserved
+loop-domain-preserved c =
     let b = c.args.self.now in
-    rw c.shut.ensures (shut_marked b.frame.map.now.map b.frame.pool b.groups.items c.loop-other.marks c.args.from _ (none_leaves b.frame.map.now.map b.frame.pool b.groups.items c.args.from _ c.requires.none) c.loop-other.invariant)
+    all_marked b.frame.map.now.map b.frame.pool b.groups.items c.loop-domain.marks c.shut.new.self c.args.from _ (λ to. none_leaves b.frame.map.now.map b.frame.pool b.groups.items c.args.from to c.requires.none) c.loop-domain.invariant c.shut.ensures.rows c.shut.ensures.alike

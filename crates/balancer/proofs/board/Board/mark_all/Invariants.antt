@@ -1,5 +1,5 @@
 use Rattle.balancer.specs.Marks.{IsMarked}
 use Rattle.balancer.proofs.board.Board.mark_all.Given as goal
 
-abbrev pub invariant-loop-other : goal.invariant-loop-other
-invariant-loop-other l = IsMarked l.self.frame.map.now.map l.self.frame.pool l.self.groups.items l.marks
+abbrev pub invariant-loop-domain : goal.invariant-loop-domain
+invariant-loop-domain l = IsMarked l.self.frame.map.now.map l.self.frame.pool l.self.groups.items l.marks

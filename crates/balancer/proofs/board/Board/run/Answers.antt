@@ -1,8 +1,23 @@
-use Rattle.std.proofs.Common.{◌≡◌, ◌∙◌, [], Some}
+use Rattle.std.proofs.Common.{◌≡◌, ◌∙◌, [], Some, refl}
 use Rattle.balancer.specs.Shares.{aim_of}
 use Rattle.balancer.specs.Greedy.{good_moves, best_move, after_moves}
-use Rattle.balancer.proofs.GreedyMoveByMove.{way_goes_on, way_ends, way_stops}
+use Rattle.balancer.proofs.GreedyMoveByMove.{way_begins, way_goes_on, way_ends, way_stops}
+use Rattle.balancer.proofs.BoundsOfMoves.{none_bound}
 use Rattle.balancer.proofs.board.Board.run.Goals as goal
+
+pub loop-count-init : goal.loop-count-init
+loop-count-init c =
+    let b = c.args.self.now in
+    let aim = aim_of b.frame.carried.now b.frame.apart in
+    record {
+      order = c.in_ok-order.ensures;
+      way = way_begins b.frame.map.now.map b.frame.pool aim c.args.limit b.moves.items c.requires;
+      map = refl;
+      pool = refl;
+      aim = refl;
+      marks = c.in_ok-marks.ensures b.groups.items;
+      widths = none_bound (after_moves b.frame.map.now.map b.frame.pool b.moves.items) b.frame.pool aim _ c.in_ok-widths.widths c.in_ok-widths.ensures;
+    }
 
 pub returns-in-None-clause-moves : goal.returns-in-None-clause-moves
 returns-in-None-clause-moves c =

@@ -8,6 +8,8 @@ use Rattle.std.proofs.lemmas.Bool.{cases_lt}
 use Rattle.std.proofs.lemmas.List.{get_or_default}
 use Rattle.balancer.specs.Shares.{aim_of}
 use Rattle.balancer.specs.Widths.{bound_of}
+use Rattle.balancer.specs.Marks.{is_shut}
+use mathlib.Core.Bool.{false≢true}
 use Rattle.balancer.specs.Greedy.{after_moves, gap}
 use Rattle.balancer.proofs.SearchCovers.{candidate_at}
 use Rattle.balancer.proofs.BestCovers.{candidate_in}
@@ -32,10 +34,10 @@ loop-from-preserved c =
           let one = c.widen.ensures f bound known in
           let before = c.loop-from.invariant.0 f one.0.0 one.0.1 in
           (before.0, before.1, z_most before.0 one.0.0 bound before.2 one.0.2),
-      λ j bound below known.
+      λ j bound below known free.
           let one = c.widen.ensures (get_or osds j 0) bound known in
           elim (cases_lt j i) [
-            | inl less ↦ z_most (far j) one.0.0 bound (c.loop-from.invariant.1 j one.0.0 less one.0.1) one.0.2
+            | inl less ↦ z_most (far j) one.0.0 bound (c.loop-from.invariant.1 j one.0.0 less one.0.1 free) one.0.2
             | inr over ↦
                 let same : j ≡ i = omega (arith, below, over) in
                 let here : get_or osds j 0 ≡ get_or c.deref-from-items.result.now i 0 = ap (λ k. get_or osds k 0) same ∙ ap (λ xs. get_or xs i 0) (sym c.deref-from-items.ensures.value) in
@@ -43,10 +45,26 @@ loop-from-preserved c =
           ],
     )
 
+pub loop-from-preserved-then-is_shut : goal.loop-from-preserved-then-is_shut
+loop-from-preserved-then-is_shut c =
+    let b = c.args.self.now in
+    let osds = b.frame.osds.items in
+    let i = c.loop-from.from-index in (
+      c.loop-from.invariant.0,
+      λ j bound below known free. elim (cases_lt j i) [
+        | inl less ↦ c.loop-from.invariant.1 j bound less known free
+        | inr over ↦
+            let same : j ≡ i = omega (arith, below, over) in
+            let here : get_or osds j 0 ≡ get_or c.deref-from-items.result.now i 0 = ap (λ k. get_or osds k 0) same ∙ ap (λ xs. get_or xs i 0) (sym c.deref-from-items.ensures.value) in
+            let open_here : is_shut c.args.marks.now (get_or c.deref-from-items.result.now i 0) c.args.emptier ≡ false = rw here at free in
+            absurd (false≢true (sym open_here ∙ sym c.is_shut.ensures ∙ c.if-is_shut.true))
+      ],
+    )
+
 pub returns : goal.returns
 returns c = λ f bound known. (
   c.loop-from.invariant.0 f bound known,
-  λ is.
+  λ is free.
       let b = c.args.self.now in
       let n = after_moves b.frame.map.now.map b.frame.pool b.moves.items in
       let osds = b.frame.osds.items in
@@ -54,5 +72,6 @@ returns c = λ f bound known. (
       let at = subst (λ (xs : List ℕ). Contains xs f) (sym b.frame.osds_are) (candidate_in b.frame.map.now.map b.frame.pool f is) in
       let f_is : get_or osds at.0 0 ≡ f = get_or_default osds at.0 0 f at.1 ∙ at.2 in
       subst (λ x. int_lt bound (gap n b.frame.pool (aim_of b.frame.carried.now b.frame.apart) x c.args.emptier) ≡ false) f_is
-      (c.loop-from.invariant.1 at.0 bound (omega (arith, past, at.1)) (subst (λ x. bound_of c.loop-from.widths x ≡ Some bound) (sym f_is) known)),
+      (c.loop-from.invariant.1 at.0 bound (omega (arith, past, at.1)) (subst (λ x. bound_of c.loop-from.widths x ≡ Some bound) (sym f_is) known)
+      (subst (λ x. is_shut c.args.marks.now x c.args.emptier ≡ false) (sym f_is) free)),
 )

@@ -6,11 +6,11 @@ use Rattle.crush.proofs.LeafTries.{first_leaf}
 use Rattle.crush.specs.Remembered.{Remembers}
 use Rattle.crush.proofs.chooser.Chooser.leaf.Given as goal
 
-abbrev pub invariant-loop-turn : goal.invariant-loop-turn
-invariant-loop-turn l =
+abbrev pub invariant-loop-failures : goal.invariant-loop-failures
+invariant-loop-failures l =
     let w = world l.self.placement in
     let F : ℕ → Bucket → ℕ = λ r b. r in
     record {
-      done : first_leaf w (is_free w l.chosen) l.below.bucket.now F (l.r + l.turn) (l.self.tries.leaf - l.turn) ≡ first_leaf w (is_free w l.chosen) l.below.bucket.now F l.r l.self.tries.leaf;
+      done : first_leaf w (is_free w l.chosen) l.below.bucket.now F (l.r + l.failures) (l.self.tries.leaf - l.failures) ≡ first_leaf w (is_free w l.chosen) l.below.bucket.now F l.r l.self.tries.leaf;
       picks : Remembers w l.picks;
     }

@@ -1,5 +1,5 @@
 use Rattle.std.proofs.Common.{◌≡◌, ◌<◌, true, inl, rules, arith}
-use Rattle.mapstore.specs.JournalTexts.{step_entry, journal_texts}
+use Rattle.mapstore.specs.JournalTexts.{step_entry}
 use Rattle.journalstore.specs.Texts.{Texts, with_change, IsAfter, StandsFor}
 use Rattle.mapstore.specs.Laws.{settled_at}
 use Rattle.mapstore.proofs.KeepLemmas.{left_with, holds_with, holds_still}

@@ -1,0 +1,7 @@
+use denote.RattleType.{RattleType}
+use denote.Param.Send.{IsSend}
+use Rattle.mapstore.specs.contracts.noted.Noted.{the_row}
+
+-- it owns nothing
+pub send : (T : RattleType) → IsSend (the_row T)
+send T = record { owned = λ d vs. ((λ vss. (tt, ((λ uss. (tt, tt)), tt))), tt); leaving = λ k d w. tt }
