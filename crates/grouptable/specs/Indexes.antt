@@ -1,30 +1,27 @@
--- What an index has for an OSD, and what it has once lists are put into it.
-use Rattle.std.specs.Prelude.{◌≡◌, ℕ, ◌<◌, cond, List, length, Option, Some, None, nat_eq, ◌==◌}
-use Rattle.std.specs.Option.{IsSome}
-use Rattle.std.specs.Map.{lookup}
-use Rattle.grouptable.specs.Sets.{listed, over}
-use Rattle.grouptable.specs.Lists.{osd_list}
-
--- the list that an index has for an OSD
-abbrev pub list_in : List (ℕ × List ℕ) → ℕ → Option (List ℕ)
-list_in index osd = lookup (nat_eq osd) index
-
--- an index has a list for each OSD of fresh lists
-abbrev pub HasAllOf : List (ℕ × List ℕ) → List (ℕ × List ℕ) → Type 0
-HasAllOf fresh index = (osd : ℕ) → IsSome (list_in fresh osd) → IsSome (list_in index osd)
+-- What an index has for an OSD, what a draft over it has, and what it has once lists are put into it.
+use Rattle.std.specs.Prelude.{◌≡◌, ℕ, ◌≤◌, List, length, Option, Some, None}
+use Rattle.std.specs.Global.{Vec}
+use Rattle.grouptable.specs.Lists.{osd_list, AreForOsds, AreAllEmpty}
+use Rattle.grouptable.specs.Sets.{KeysBelow, list_over}
 
 -- the one index has for each OSD what the other has
-abbrev pub HasTheSame : List (ℕ × List ℕ) → List (ℕ × List ℕ) → Type 0
-HasTheSame old new = (osd : ℕ) → list_in new osd ≡ list_in old osd
+abbrev pub HasTheSame : List (List ℕ) → List (List ℕ) → Type 0
+HasTheSame old new = (osd : ℕ) → osd_list new osd ≡ osd_list old osd
 
--- the index of lists that stand by their OSD: it has those with a group
-abbrev pub IsIndexOf : List (List ℕ) → List (ℕ × List ℕ) → Type 0
-IsIndexOf lists index = (osd : ℕ) → osd < length lists → list_in index osd ≡ listed (osd_list lists osd)
+-- the list of an OSD in a draft over the index of a table
+abbrev pub draft_list : List (List ℕ) → List (ℕ × List ℕ) → ℕ → List ℕ
+draft_list index fresh osd = list_over osd (osd_list index osd) fresh
 
--- fresh lists are put into an index: their OSDs have them, if they have a group, and the others what they had
-abbrev pub IsPutInto : List (ℕ × List ℕ) → List (ℕ × List ℕ) → List (ℕ × List ℕ) → Type 0
-IsPutInto fresh old new = (osd : ℕ) → list_in new osd ≡ over (list_in fresh osd) (list_in old osd)
+-- each OSD's groups in a draft, by those that it had before
+abbrev pub IsRedrawn : (ℕ → List ℕ → List ℕ) → List (List ℕ) → List (ℕ × List ℕ) → List (ℕ × List ℕ) → Type 0
+IsRedrawn step index old new = (osd : ℕ) → draft_list index new osd ≡ step osd (draft_list index old osd)
 
--- one fresh list is put into an index: its OSD has it, if it has a group, and the others have what they had
-abbrev pub IsOnePutInto : ℕ → List ℕ → List (ℕ × List ℕ) → List (ℕ × List ℕ) → Type 0
-IsOnePutInto osd list old new = (k : ℕ) → list_in new k ≡ over (cond (osd == k) (Some list) None) (list_in old k)
+-- fresh lists are put into an index: their OSDs have them, and the others what they had
+abbrev pub IsPutInto : List (ℕ × List ℕ) → List (List ℕ) → List (List ℕ) → Type 0
+IsPutInto fresh old new = (osd : ℕ) → osd_list new osd ≡ draft_list old fresh osd
+
+-- fresh lists find their place in an index of so many lists, or among the empty lists that are brought for it
+abbrev pub FindsPlace : ℕ → List (ℕ × List ℕ) → Option (Vec (List ℕ)) → Type 0
+FindsPlace lists fresh None = KeysBelow lists fresh
+FindsPlace lists fresh (Some room) =
+    (lists ≤ length room.items) × (KeysBelow (length room.items) fresh × (AreForOsds room.items × AreAllEmpty room.items))

@@ -12,6 +12,14 @@ AreForOsds each = length each ≤ max_devices
 abbrev pub osd_list : List (List ℕ) → ℕ → List ℕ
 osd_list lists osd = slice_index_or lists osd []
 
+-- no list has a group
+abbrev pub AreAllEmpty : List (List ℕ) → Type 0
+AreAllEmpty lists = (osd : ℕ) → osd_list lists osd ≡ []
+
+-- the last of the lists has a group: there are no more than up to the last OSD with one
+abbrev pub AreTrimmed : List (List ℕ) → Type 0
+AreTrimmed lists = (n : ℕ) → ((osd : ℕ) → n ≤ osd → osd_list lists osd ≡ []) → length lists ≤ n
+
 -- no OSD's list has a group
 abbrev pub AreEmpty : List (List ℕ) → Type 0
 AreEmpty lists = (osd : ℕ) → osd < max_devices → osd_list lists osd ≡ []

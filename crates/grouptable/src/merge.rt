@@ -1,8 +1,7 @@
 //! An index that is being changed in many groups, by number upwards: fresh lists, each of which is gone through once.
 
-ghost use Rattle.std.specs.Prelude.{[], ◌≡◌, nat_eq, IfOk};
-ghost use Rattle.std.specs.Map.{lookup};
-ghost use Rattle.std.specs.Option.{unwrap_or};
+ghost use Rattle.std.specs.Prelude.{◌≡◌, IfOk};
+ghost use Rattle.grouptable.specs.Lists.{osd_list};
 
 use crate::draft::Exchange;
 use crate::group_list::GroupList;
@@ -35,7 +34,8 @@ impl<'a> Merge<'a> {
     ghost use Rattle.std.specs.Map.{lookup};
     ghost use Rattle.buckets.specs.Limits.{max_devices};
     ghost use Rattle.grouptable.specs.Keys.{with_key, without_key};
-    ghost use Rattle.grouptable.specs.Sets.{after_leaving, after_joining, stands_at, IsRedrawn, KeysBelow};
+    ghost use Rattle.grouptable.specs.Sets.{after_leaving, after_joining, stands_at, KeysBelow};
+    ghost use Rattle.grouptable.specs.Indexes.{IsRedrawn};
     ghost use Rattle.maptypes.specs.Sets.{is_of};
 
     /// The index with no fresh list.
@@ -51,13 +51,13 @@ impl<'a> Merge<'a> {
     fn add(
         &mut self,
         alloc: Global,
-        index: &'a IndexMap<u32, GroupList>,
+        index: &'a [GroupList],
         osd: u32,
         group: u16,
     ) -> Result<(), AllocError>
         requires within { osd < max_devices }
         ensures lists { OnOk result (IsRedrawn (λ k groups. cond (osd == k) (with_key group groups) groups)
-            index.now.entries self.old self.new) }
+            index.now self.old self.new) }
     {
         if let Some(list) = self.fresh.get_mut(&osd) {
             return list.add(group);
@@ -72,13 +72,13 @@ impl<'a> Merge<'a> {
     fn remove(
         &mut self,
         alloc: Global,
-        index: &'a IndexMap<u32, GroupList>,
+        index: &'a [GroupList],
         osd: u32,
         group: u16,
     ) -> Result<(), AllocError>
         requires within { osd < max_devices }
         ensures lists { OnOk result (IsRedrawn (λ k groups. cond (osd == k) (without_key group groups) groups)
-            index.now.entries self.old self.new) }
+            index.now self.old self.new) }
     {
         if let Some(list) = self.fresh.get_mut(&osd) {
             return list.remove(group);
@@ -98,7 +98,7 @@ impl<'a> Merge<'a> {
     ) -> Result<(), AllocError>
         requires small { IfSome place (λ osd. osd < max_devices) }
         ensures lists { OnOk result (IsRedrawn (λ k. after_leaving (is_of k place) (stands_at k exchange.now.after.now)
-            exchange.now.group) exchange.now.index.now.entries self.old self.new) }
+            exchange.now.group) exchange.now.index.now self.old self.new) }
     {
         if let Some(osd) = place {
             if !holds(exchange.after, osd) {
@@ -117,7 +117,7 @@ impl<'a> Merge<'a> {
     ) -> Result<(), AllocError>
         requires small { IfSome place (λ osd. osd < max_devices) }
         ensures lists { OnOk result (IsRedrawn (λ k. after_joining (stands_at k exchange.now.before.now) (is_of k place)
-            exchange.now.group) exchange.now.index.now.entries self.old self.new) }
+            exchange.now.group) exchange.now.index.now self.old self.new) }
     {
         if let Some(osd) = place {
             if !holds(exchange.before, osd) {
@@ -130,7 +130,7 @@ impl<'a> Merge<'a> {
     /// Each OSD of the old set leaves the group, unless it stands in the new one.
     pub fn leave(&mut self, alloc: Global, exchange: &Exchange<'a>) -> Result<(), AllocError>
         ensures lists { OnOk result (IsRedrawn (λ k. after_leaving (stands_at k exchange.now.before.now)
-            (stands_at k exchange.now.after.now) exchange.now.group) exchange.now.index.now.entries self.old self.new) }
+            (stands_at k exchange.now.after.now) exchange.now.group) exchange.now.index.now self.old self.new) }
     {
         for i in 0..exchange.before.len() {
             self.leave_one(alloc, exchange, osd_in(exchange.before, i))?;
@@ -141,7 +141,7 @@ impl<'a> Merge<'a> {
     /// Each OSD of the new set joins the group, unless it stood in the old one.
     pub fn join(&mut self, alloc: Global, exchange: &Exchange<'a>) -> Result<(), AllocError>
         ensures lists { OnOk result (IsRedrawn (λ k. after_joining (stands_at k exchange.now.before.now)
-            (stands_at k exchange.now.after.now) exchange.now.group) exchange.now.index.now.entries self.old self.new) }
+            (stands_at k exchange.now.after.now) exchange.now.group) exchange.now.index.now self.old self.new) }
     {
         for i in 0..exchange.after.len() {
             self.join_one(alloc, exchange, osd_in(exchange.after, i))?;
@@ -165,14 +165,10 @@ impl<'a> Merge<'a> {
 }
 
 /// The list of an OSD, to be changed.
-fn open<'a>(
-    alloc: Global,
-    index: &'a IndexMap<u32, GroupList>,
-    osd: u32,
-) -> Result<OpenList<'a>, AllocError>
-    ensures { IfOk result (λ list. list ≡ unwrap_or (lookup (nat_eq osd) index.now.entries) []) }
+fn open<'a>(alloc: Global, index: &'a [GroupList], osd: u32) -> Result<OpenList<'a>, AllocError>
+    ensures { IfOk result (λ list. list ≡ osd_list index.now osd) }
 {
-    match index.get(&osd) {
+    match index.get(osd as usize) {
         Some(list) => OpenList::over(alloc, list),
         None => Ok(OpenList::new(alloc)),
     }

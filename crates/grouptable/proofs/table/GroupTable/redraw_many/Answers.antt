@@ -1,20 +1,20 @@
 use Rattle.std.proofs.Common.{map, arith}
 use Rattle.grouptable.specs.Sets.{place_stored}
-use Rattle.grouptable.proofs.Changes.{drafted, undrawn, fits_all}
+use Rattle.grouptable.proofs.Changes.{drafted, fits_all}
 use Rattle.grouptable.proofs.Drafts.{below_same}
 use Rattle.grouptable.proofs.table.GroupTable.redraw_many.Goals as goal
 
 pub loop-group-init : goal.loop-group-init
-loop-group-init c = λ osd h. rw c.new-merge.ensures (undrawn c.self.inside.index.entries osd _ (c.self.invariant.each.1 osd h))
+loop-group-init c = λ osd h. rw c.new-merge.ensures (c.self.invariant.each.each osd h)
 
 pub loop-group-preserved : goal.loop-group-preserved
 loop-group-preserved c =
     let within = rw (← c.self.view_is) at c.requires.within in
-    λ osd h. drafted c.self.inside.sets.sets c.args.changes.now c.loop-group.group-index c.loop-group-item.result osd (map place_stored c.set.result.now) _ _ _ (omega arith) c.loop-group-item.is within c.requires.ascending (c.loop-group.invariant osd h) c.set.ensures.value (rw c.as_stored.ensures.value at (c.in_ok-leave.ensures.lists osd)) (rw c.as_stored.ensures.value at (c.in_ok-join.ensures.lists osd))
+    λ osd h. drafted c.self.inside.sets.sets c.args.changes.now c.loop-group.group-index c.loop-group-item.result osd (map place_stored c.set.result.now) _ _ _ (omega arith) c.loop-group-item.is within c.requires.ascending (c.loop-group.invariant osd h) c.set.ensures.value (rw (c.as_slice.ensures.value, c.as_stored.ensures.value) at (c.in_ok-leave.ensures.lists osd)) (rw (c.as_slice.ensures.value, c.as_stored.ensures.value) at (c.in_ok-join.ensures.lists osd))
 
 pub returns : goal.returns
 returns c = record {
   within = below_same c.loop-group.merge c.in_ok-into_lists.field-0.entries c.in_ok-into_lists.ensures.lists c.in_ok-into_lists.ensures.within;
   each = λ osd h.
-      rw (c.in_ok-into_lists.ensures.lists osd, ← c.self.view_is) (fits_all c.self.inside.sets.sets c.self.inside.index.entries c.loop-group.merge c.args.changes.now c.loop-group.group-index osd (c.self.invariant.each.1 osd h) (c.loop-group.invariant osd h) c.loop-group-test.false);
+      rw (c.in_ok-into_lists.ensures.lists osd, ← c.self.view_is) (fits_all c.self.inside.sets.sets c.self.inside.index.items c.loop-group.merge c.args.changes.now c.loop-group.group-index osd (c.self.invariant.each.each osd h) (c.loop-group.invariant osd h) c.loop-group-test.false);
 }

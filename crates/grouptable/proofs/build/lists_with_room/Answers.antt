@@ -1,7 +1,7 @@
 use Rattle.std.proofs.Common.{ℕ, List, [], arith}
 use Rattle.std.proofs.lemmas.List.{length-replicate}
 use Rattle.grouptable.proofs.Listing.{none_replicated}
-use Rattle.grouptable.proofs.build.empty_lists.Goals as goal
+use Rattle.grouptable.proofs.build.lists_with_room.Goals as goal
 
 pub returns-clause-all : goal.returns-clause-all
 returns-clause-all c = rw c.loop-count.invariant (omega (arith, length-replicate {A = List ℕ} c.loop-count.count-index []))
