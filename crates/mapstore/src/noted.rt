@@ -4,8 +4,8 @@ ghost use Rattle.std.specs.Prelude.{◌≡◌};
 
 use std::marker::{Model, PhantomData};
 
-/// A value as it was when it was noted. It has no bytes, and clauses alone read it: a `Snapshot` that any thread may have,
-/// whatever the value.
+/// A value as it was when it was noted. It has no bytes, and clauses alone read it: a `Snapshot` that any thread may
+/// have, whatever the value.
 pub struct Noted<T> {
     marker: PhantomData<T>,
     pub ghost value: { T },

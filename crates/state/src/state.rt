@@ -131,8 +131,8 @@ impl<K: Keeps + Drop> State<K> {
     ghost use Rattle.state.specs.States.{journal, opened, max_epoch, Commits, fault_in};
 
     /// The state at its beginning: no change yet. It is for a row whose first epoch is the map's. From here on, `work`
-    /// counts all runs of rules of the state: one for each group now, then one for each evaluation of a change. The store
-    /// holds the map and no change yet.
+    /// counts all runs of rules of the state: one for each group now, then one for each evaluation of a change. The
+    /// store holds the map and no change yet.
     ///
     /// # Errors
     ///
