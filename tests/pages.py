@@ -523,6 +523,18 @@ class Pages(Case):
         self.assertFalse({str(path.relative_to(TOP)) for path in places if not path.exists()}, "are not there")
         self.assertFalse(sorted(str(path.relative_to(TOP)) for path in (crates | beside) - places), "are not listed")
 
+    def test_reasons_of_stores(self) -> None:
+        """docs/FORMATS.md tells each reason for which a store is not opened or fails, and no other"""
+        own = [text("crates", name, "src", "error.rt") for name in ("journalstore", "mapstore")]
+        own = [*own, text("crates", "replay", "src", "fault.rt")]
+        texts = re.findall(r'(?:=> |write!\(\s*f,\s*)"([^"]+)"', "".join(own))
+        reasons = {re.sub(r"{\w+}", "#", reason) for reason in texts} - {"#"}
+        rows = found_in(r"^### When a store is not opened\n\n(.*?)\n\n", text("docs", "FORMATS.md"), re.M | re.S)
+        cells = re.findall(r"^\| (`.*?) \|", rows, re.M)
+        said = {re.sub("EPOCH|NAME", "#", reason) for cell in cells for reason in re.findall("`([^`]+)`", cell)}
+        self.assertGreater(len(reasons), 15)
+        self.assertEqual(said, reasons)
+
     def test_numbers_of_refusals(self) -> None:
         """The page of `refusal` tells the least and the greatest number of each of the two kinds of refusals"""
         numbers = [int(found) for found in re.findall(r"^\| (\d+) \| `?\w+`? \|", text("docs", "FORMATS.md"), re.M)]
