@@ -479,8 +479,9 @@ class Pages(Case):
     def test_places_beside_crates(self) -> None:
         """Each file of the tools, the tests, the benches and the pages that has most of the keys of a map or a change,
         of the kinds of buckets, of the lines or of the refusals is in the list of its kind, as each file of a crate is
-        that has a type of what maps have"""
+        that has a type of what maps have, or with its tests most of the keys of a map or a change"""
         texts, crates = beside_crates(), sources_of_things()
+        whole = {path: source for path, source in sources().items() if path.stem not in ("Answers", "Invariants")}
         names = re.findall(r"^\| \d+ \| `?(\w+)`? \|", text("docs", "FORMATS.md"), re.MULTILINE)
         self.assertGreater(len(names), 20)
         for heading, (words, share) in [*WORDS_OF_LISTS.items(), ("A refusal", (" ".join(names), 0.6))]:
@@ -496,6 +497,8 @@ class Pages(Case):
                         for path, source in texts.items()
                         if len(set(names).intersection(re.findall(r"\w+", source))) >= share * len(set(names))
                     ]
+                if heading in (KEY_OF_MAP, "A part of a change"):
+                    form += [path for path, source in whole.items() if has_most(source, words.split(), share)]
                 if heading == KEY_OF_MAP:
                     form += [path for path, source in crates.items() if re.search(TYPES_OF_KEYS, source)]
                 places = listed(heading)
