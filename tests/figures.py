@@ -70,9 +70,9 @@ def by_data(name: str, *plans: tuple[str, tuple[str, ...]]) -> Tie:
     return Tie("docs/CEPH.md", f"| `{name}`, {{}} | " + " | ".join(told) + " |", tuple(cells))
 
 
-def by_runs(*columns: str) -> tuple[Cells, ...]:
-    """Columns of the row that counts all plans by data."""
-    return tuple(Cells("plans_by_data", "60 clusters, plan --df", column, only) for column in columns)
+def by_runs(*columns: str, plan: str = "plan --df") -> tuple[Cells, ...]:
+    """Columns of the row that counts all plans by data of one kind."""
+    return tuple(Cells("plans_by_data", f"60 clusters, {plan}", column, only) for column in columns)
 
 
 ALL_OF_PLAN, NOT_MOVED = ("commands", "data moved, TiB", "after"), ("commands", "after")
@@ -271,6 +271,11 @@ TIES = [
         "docs/DECISIONS.md",
         "Of {} plans by data {} leave an OSD above 1.1** of what it is to have, where 20 of 128 were wanted. In {} no",
         by_runs("runs", "above 1.1 after", "above 1.1 by any plan"),
+    ),
+    Tie(
+        "docs/DECISIONS.md",
+        "By `--room` {} of the {} end above 1.1",
+        by_runs("above 1.1 after", "runs", plan="plan --df --room"),
     ),
     Tie("docs/CEPH.md", "(G + 10 s B)"),
     by_data("lab", ("plan", ALL_OF_PLAN), *BY_DATA, ("plan --df --pgs --osds", ALL_OF_PLAN)),

@@ -330,7 +330,7 @@ class Packaged(Case):
 
     def test_docstrings(self) -> None:
         """Every module, class and function of the tools has its docstring."""
-        for path in (TOOLS / "rekhuso").rglob("*.py"):
+        for path in [*TOOLS.glob("*.py"), *(TOOLS / "rekhuso").rglob("*.py")]:
             for node in ast.walk(ast.parse(path.read_text())):
                 if isinstance(node, (ast.Module, ast.ClassDef, ast.FunctionDef)):
                     self.assertTrue(ast.get_docstring(node), f"{path.name}: {getattr(node, 'name', 'the module')}")

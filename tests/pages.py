@@ -277,21 +277,27 @@ def listed(heading: str) -> set[pathlib.Path]:
                 files |= {crate / "src" / f"{name}.rt", *(crate / "src" / name).rglob("*.rt")}
             else:
                 files.add(TOP / owner / f"{name}.py")
-    return files | {TOP / name for name in re.findall(r"\b(?:docs/)?[A-Z]+\.md\b", lines)}
+    return files | {TOP / name for name in re.findall(r"\b(?:\w+/)*[A-Z]+\.md\b", lines)}
 
 
 def beside_crates() -> dict[pathlib.Path, str]:
-    """The files of the tools, the tests and the benches, and the pages, each with its text."""
+    """The files of the tools, the tests and the benches, and the pages with those of crates, each with its text."""
     found = [
         path for folder in ("tests", "bench") for end in ("py", "json") for path in (TOP / folder).glob(f"*.{end}")
     ]
     found += [*(TOP / "tools" / "rekhuso").rglob("*.py"), *(TOP / "docs").glob("*.md"), TOP / "README.md"]
-    return {path: path.read_text("utf-8") for path in found if path.stem != "pages"}
+    return {path: path.read_text("utf-8") for path in [*found, *pages_of_crates()] if path.stem != "pages"}
 
 
-def has_most(source: str, words: list[str], share: float) -> bool:
+def options_of_programs() -> list[str]:
+    """The options of the programs, without their hyphens."""
+    lines = [text("crates", "cli", "src", "arguments.rt"), text("crates", "osdmapstore", "src", "line.rt")]
+    return re.findall(r'\.long\("([\w-]+)"\)', "".join(lines))
+
+
+def has_most(source: str, words: list[str], share: float, flags: int = re.M) -> bool:
     """Whether a text has at least a share of some words, each behind a quote or as the name of a field."""
-    return sum(bool(re.search(rf"[\"'`\\]{word}\b|^ *{word}: ", source, re.M)) for word in words) >= share * len(words)
+    return sum(bool(re.search(rf"[\"'`\\]{word}\b|^ *{word}: ", source, flags)) for word in words) >= share * len(words)
 
 
 def looked_for(kind: str, declaration: str) -> set[str]:
@@ -367,8 +373,7 @@ class Pages(Case):
 
     def test_options(self) -> None:
         """Each option that a page names is one of the programs, of the tools, or of others"""
-        lines = [text("crates", "cli", "src", "arguments.rt"), text("crates", "osdmapstore", "src", "line.rt")]
-        own = re.findall(r'\.long\("([\w-]+)"\)', "".join(lines))
+        own = options_of_programs()
         known = OF_PARSERS | {f"--{name}" for name in own}
         for path in sorted((TOP / "tools" / "rekhuso").rglob("*.py")):
             known.update(re.findall(r'"(--[a-z][\w-]*)"', path.read_text(encoding="utf-8")))
@@ -473,25 +478,86 @@ class Pages(Case):
     def test_places_beside_crates(self) -> None:
         """Each file of the tools, the tests, the benches and the pages that has most of the keys of a map or a change,
         of the kinds of buckets, of the lines or of the refusals is in the list of its kind, as each file of a crate is
-        that has a type of what maps have"""
+        that has a type of what maps have, or with its tests most of the keys of a map or a change"""
         texts, crates = beside_crates(), sources_of_things()
+        whole = {path: source for path, source in sources().items() if path.stem not in ("Answers", "Invariants")}
         names = re.findall(r"^\| \d+ \| `?(\w+)`? \|", text("docs", "FORMATS.md"), re.MULTILINE)
         self.assertGreater(len(names), 20)
         for heading, (words, share) in [*WORDS_OF_LISTS.items(), ("A refusal", (" ".join(names), 0.6))]:
             with self.subTest(list=heading):
-                form = [path for path, source in texts.items() if has_most(source, words.split(), share)]
+                form = [
+                    path
+                    for path, source in texts.items()
+                    if has_most(source, words.split(), share, re.M | re.I if "crates" in path.parts else re.M)
+                ]
                 if heading == "A refusal":
                     form = [
                         path
                         for path, source in texts.items()
                         if len(set(names).intersection(re.findall(r"\w+", source))) >= share * len(set(names))
                     ]
+                if heading in (KEY_OF_MAP, "A part of a change"):
+                    form += [path for path, source in whole.items() if has_most(source, words.split(), share)]
                 if heading == KEY_OF_MAP:
                     form += [path for path, source in crates.items() if re.search(TYPES_OF_KEYS, source)]
                 places = listed(heading)
                 self.assertTrue(form)
                 self.assertFalse({str(path.relative_to(TOP)) for path in places if not path.exists()}, "are not there")
                 self.assertFalse(sorted(str(path.relative_to(TOP)) for path in set(form) - places), "are not listed")
+
+    def test_places_of_options(self) -> None:
+        """Each file of a crate that has an option of a program, or the type of all, is in the list of options, as each
+        other file is that has half of them; but for the word of a table of stores, and for tests"""
+        places, own = listed("An option of a program"), options_of_programs()
+        words = "|".join(sorted({*own} - {"journal"}))
+        crates = {
+            path
+            for path, source in sources_of_things().items()
+            if re.search(rf'"(?:{words})"|\b(?:Session)?Options\b', source)
+        }
+        beside = {
+            path
+            for path, source in beside_crates().items()
+            if sum(bool(re.search(rf"--{word}(?![\w-])", source)) for word in own) >= len(own) / 2
+        }
+        self.assertGreater(len(crates), 10)
+        self.assertGreater(len(beside), 3)
+        self.assertFalse({str(path.relative_to(TOP)) for path in places if not path.exists()}, "are not there")
+        self.assertFalse(sorted(str(path.relative_to(TOP)) for path in (crates | beside) - places), "are not listed")
+
+    def test_reasons_of_stores(self) -> None:
+        """docs/FORMATS.md tells each reason for which a store is not opened or fails, and no other"""
+        own = [text("crates", name, "src", "error.rt") for name in ("journalstore", "mapstore")]
+        own = [*own, text("crates", "replay", "src", "fault.rt")]
+        texts = re.findall(r'(?:=> |write!\(\s*f,\s*)"([^"]+)"', "".join(own))
+        reasons = {re.sub(r"{\w+}", "#", reason) for reason in texts} - {"#"}
+        rows = found_in(r"^### When a store is not opened\n\n(.*?)\n\n", text("docs", "FORMATS.md"), re.M | re.S)
+        cells = re.findall(r"^\| (`.*?) \|", rows, re.M)
+        said = {re.sub("EPOCH|NAME", "#", reason) for cell in cells for reason in re.findall("`([^`]+)`", cell)}
+        self.assertGreater(len(reasons), 15)
+        self.assertEqual(said, reasons)
+
+    def test_numbers_of_refusals(self) -> None:
+        """The page of `refusal` tells the least and the greatest number of each of the two kinds of refusals"""
+        numbers = [int(found) for found in re.findall(r"^\| (\d+) \| `?\w+`? \|", text("docs", "FORMATS.md"), re.M)]
+        of_maps, others = [own for own in numbers if own < 20], [own for own in numbers if own >= 20]
+        said = found_in(r"`number` \(([^)]*)\)", flat(TOP / "crates" / "refusal" / "README.md"))
+        ends = [int(found) for found in re.findall(r"\d+", said)]
+        self.assertEqual(ends, [min(of_maps), max(of_maps), min(others), max(others)])
+
+    def test_parts_of_a_change(self) -> None:
+        """Each page that counts the parts of a change counts the fields of `ChangeParts`"""
+        source = text("crates", *LISTS["A part of a change"]["ChangeParts"].split("/"))
+        body = found_in(r"^pub struct ChangeParts {\n(.*?)^}", source, re.M | re.S)
+        count = len(re.findall(r"^    pub (?!profile\b)\w+: ", body, re.M))
+        said = {
+            (page.name, word)
+            for page in pages()
+            for word in re.findall(r"(\w+) parts(?: of a change| \(`change_fault`\))", flat(page))
+            if word in NUMBERS
+        }
+        self.assertGreater(len(said), 1)
+        self.assertEqual({NUMBERS[word] for _, word in said}, {str(count)})
 
     def test_pages_of_crates(self) -> None:
         """Each crate that docs/LIBRARY.md names has a page with the parts of such pages, and crates/README.md leads to

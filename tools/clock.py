@@ -62,12 +62,14 @@ class Sampler:
     """The processor time of each process below another that proves or compiles, by its number and its beginning."""
 
     def __init__(self, top: int) -> None:
+        """Begins to note, beside whatever the caller does."""
         self.top, self.ended = top, threading.Event()
         self.seconds: dict[tuple[int, str, str, str], float] = {}
         self.thread = threading.Thread(target=self.run, daemon=True)
         self.thread.start()
 
     def run(self) -> None:
+        """Notes again and again, until all is done."""
         while not self.ended.wait(PAUSE):
             self.sample()
 
@@ -125,6 +127,7 @@ def table(came: Minutes) -> Iterator[str]:
 
 
 def main() -> None:
+    """Passes lines on, and tells what came of them at the end."""
     for stream in (sys.stdin, sys.stdout):
         if isinstance(stream, io.TextIOWrapper):
             stream.reconfigure(encoding="utf-8", errors="replace")

@@ -98,6 +98,7 @@ def pack(log: pathlib.Path, programs: list[pathlib.Path], folder: pathlib.Path) 
 
 
 def main() -> None:
+    """Makes the archive, and tells its checksum and its path."""
     if len(sys.argv) < 4:
         sys.exit((__doc__ or "").strip())
     log, folder, *programs = map(pathlib.Path, sys.argv[1:])

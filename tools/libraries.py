@@ -35,6 +35,7 @@ def paths_in(crate: pathlib.Path) -> set[str]:
 
 
 def main() -> int:
+    """Tells what is named in vain; the status."""
     root = pathlib.Path(sys.argv[1] if len(sys.argv) > 1 else pathlib.Path(__file__).parent.parent)
     vain = [
         (crate, library)

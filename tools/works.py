@@ -66,6 +66,7 @@ def makers(root: pathlib.Path) -> Iterator[tuple[str, str, bool]]:
 
 
 def main() -> int:
+    """Tells what is made where it may not be; the status."""
     root = pathlib.Path(sys.argv[1] if len(sys.argv) > 1 else pathlib.Path(__file__).parent.parent)
     found = list(makers(root))
     wrong = [(place, what) for place, what, may_be in found if not may_be]
