@@ -1,8 +1,9 @@
-//! A store that finds no memory and then fails, by an example.
+//! Stores that find no memory, fail or do not forget, by examples.
 
 use crate::examples::incremental;
-use keeping::{Keeper, Keeps, NotKept};
+use keeping::{Keeper, Keeps, NotKept, Nothing};
 use maptypes::Incremental;
+use std::alloc::Global;
 use std::test::Fail;
 
 // Takes one incremental, then finds no memory for one, and then fails; it counts how often it is asked. Nothing is
@@ -51,4 +52,29 @@ fn a_failed_store_is_asked_nothing_more(rt: HostRuntime) {
     }
     assert_eq!(rt; answers, [1, 30, 35, 35, 35]);
     assert_eq!(rt; keeper.store().asked, 3);
+}
+
+// What a keeper answers that is asked to keep an incremental: the number of the refusal, or 1.
+fn ask<K: Keeps + Drop>(keeper: &mut Keeper<K>, alloc: Global) -> u8 {
+    let Some(step) = incremental(alloc, 2) else {
+        return 30;
+    };
+    keeper
+        .keep(step)
+        .err()
+        .map_or(1, |refused| refused.number())
+}
+
+// What the keeper of a store answers before and after it forgets an incremental.
+fn ask_around_forget<K: Keeps + Drop>(store: K, alloc: Global) -> [u8; 2] {
+    let mut keeper = Keeper::new(store);
+    let before = ask(&mut keeper, alloc);
+    keeper.forget();
+    [before, ask(&mut keeper, alloc)]
+}
+
+#[test]
+fn a_store_that_holds_what_is_forgotten_counts_as_failed(rt: HostRuntime) {
+    assert_eq!(rt; ask_around_forget(Narrow { asked: 0 }, rt.alloc()), [1, 35]);
+    assert_eq!(rt; ask_around_forget(Nothing, rt.alloc()), [1, 1]);
 }

@@ -6,7 +6,7 @@
 //! - `changes`: the written form of changes
 //! - `errors`: texts of errors
 //! - `journals`: a journal of texts played again
-//! - `keepers`: a store that finds no memory and then fails
+//! - `keepers`: stores that find no memory, fail or do not forget
 //! - `rows`: a row of epochs and its passes
 //! - `members`: members of a monitor beside one another
 //! - `sessions`: sessions over sinks and gates that fail or wait

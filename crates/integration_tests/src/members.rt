@@ -1,5 +1,6 @@
 //! What no clause says of members: that questions go on beside a look, that a call draws once for a member that has
-//! seen a change, that a gate is asked once for a line, and that there is memory for as many seats as there may be.
+//! seen a change, that a gate is asked once for a line, and that there is memory for as many seats as there may be; and
+//! which changes a new monitor reads.
 ghost use Rattle.monitor.specs.Members.{IsMemberOf};
 
 use crate::examples::{DOWN, FOUR_DEVICES, commit_now, open_for_two};
@@ -287,5 +288,18 @@ fn a_monitor_has_up_to_1024_seats(rt: HostRuntime) -> Result<(), Fail> {
     assert!(rt; limited_member_count(alloc, 1024, 1 << 40) == Some(Ok(1024)));
     assert!(rt; limited_member_count(alloc, 1025, 1) == Some(Err(Refusal::BadLimit)));
     assert!(rt; limited_member_count(alloc, 1, (1 << 40) + 1) == Some(Err(Refusal::BadLimit)));
+    Ok(())
+}
+
+/// By which profile a new monitor reads the texts of changes.
+fn profile_at_first(alloc: Global) -> Option<Profile> {
+    let (monitor, _, _) = open_for_two(alloc, FOUR_DEVICES, 1024)?;
+    Some(monitor.profile())
+}
+
+/// What a plain map may not have comes in by no change.
+#[test]
+fn a_new_monitor_reads_plain_changes(rt: HostRuntime) -> Result<(), Fail> {
+    assert!(rt; profile_at_first(rt.alloc()) == Some(Profile::Plain));
     Ok(())
 }

@@ -1,5 +1,6 @@
 //! Sessions: a sink that fails, a seat that is spent, a gate and a look that are held while another asks. Whoever owns
 //! a monitor and its members leaves by few ways, as each way out drops them all.
+ghost use Rattle.std.specs.Prelude.{◌≡◌, false};
 ghost use Rattle.monitor.specs.Members.{IsMemberOf};
 
 use crate::examples::{DOWN, FOUR_DEVICES, commit_now, open_for_two};
@@ -22,6 +23,23 @@ struct Slow {
     bytes: Vec<u8>,
     calls: usize,
     failed: bool,
+    /// Whether it was written to again once it had failed.
+    again: bool,
+    /// Whether a write counts as one that may wait.
+    waits: bool,
+}
+
+/// Such a sink, with so many calls left.
+fn slow_sink(alloc: Global, calls: usize, waits: bool) -> Slow
+    ensures { result.failed ≡ false }
+{
+    Slow {
+        bytes: Vec::new(alloc),
+        calls,
+        failed: false,
+        again: false,
+        waits,
+    }
 }
 
 impl Sink for Slow {
@@ -31,11 +49,12 @@ impl Sink for Slow {
 
     ghost has_failed = { λ slow. slow.failed };
 
-    ghost waits = { λ _. false };
+    ghost waits = { λ slow. slow.waits };
 
     ghost holds_back = { λ _. false };
 
     fn write(&mut self, bytes: &[u8]) -> Result<usize, WriteFailed> {
+        self.again = self.failed;
         let taken = bytes.len().min(3);
         if self.calls == 0 || self.bytes.extend_from_slice(&bytes[..taken]).is_err() {
             self.failed = true;
@@ -50,7 +69,7 @@ impl Sink for Slow {
     }
 
     fn may_wait(&self) -> bool {
-        false
+        self.waits
     }
 
     fn flush(&mut self) -> Result<(), WriteFailed> {
@@ -70,11 +89,7 @@ fn run_cut_off<R: Wait>(
     calls: usize,
 ) -> Option<(Result<(), SessionError>, Slow, bool)> {
     let (monitor, mut member, mut other) = open_for_two(alloc, FOUR_DEVICES, 1024)?;
-    let mut slow = Slow {
-        bytes: Vec::new(alloc),
-        calls,
-        failed: false,
-    };
+    let mut slow = slow_sink(alloc, calls, false);
     let script = b"change {\"base\":1,\"down\":[2]}\nup 1.0\n";
     let desk = Desk {
         alloc,
@@ -107,7 +122,7 @@ fn a_session_ends_at_each_failed_write(rt: HostRuntime) -> Result<(), Fail> {
             Some((ended, slow, stands)) => {
                 assert_eq!(rt; ended, wanted, "{calls}");
                 assert_eq!(rt; slow.bytes.as_slice(), &answers[..out.min(30)], "{calls}");
-                assert!(rt; stands, "{calls}");
+                assert!(rt; stands && !slow.again, "{calls}");
             }
             None => assert!(rt; false, "{calls}"),
         }
@@ -336,11 +351,7 @@ fn ask_cut_off<R: Wait>(
 ) -> Option<(Result<(), SessionError>, Slow, bool)> {
     let (monitor, mut member, mut other) = open_for_two(alloc, FOUR_DEVICES, MAX_DRAWS)?;
     let script = questions(alloc, "", 40).ok()?;
-    let mut slow = Slow {
-        bytes: Vec::new(alloc),
-        calls,
-        failed: false,
-    };
+    let mut slow = slow_sink(alloc, calls, false);
     let desk = Desk {
         alloc,
         rt,
@@ -374,11 +385,34 @@ fn a_run_of_questions_ends_at_each_failed_write(rt: HostRuntime) -> Result<(), F
                     &wanted.as_bytes()[..out.min(wanted.len())],
                     "{calls}"
                 );
-                assert!(rt; commits, "{calls}");
+                assert!(rt; commits && !slow.again, "{calls}");
             }
             None => assert!(rt; false, "{calls}"),
         }
     }
+    Ok(())
+}
+
+/// How often a session draws for three questions, to a sink whose writes may wait or do not.
+fn draws_for_three<R: Wait>(rt: &R, alloc: Global, waits: bool) -> Option<u64> {
+    let (monitor, mut member, _) = open_for_two(alloc, FOUR_DEVICES, MAX_DRAWS)?;
+    let mut slow = slow_sink(alloc, 9, waits);
+    let desk = Desk {
+        alloc,
+        rt,
+        monitor: &monitor,
+        gate: &Open,
+    };
+    let script = b"epoch\nepoch\nepoch\n";
+    desk.run(&mut member, script, &mut slow).ok()?;
+    Some(MAX_DRAWS.saturating_sub(monitor.draws_left(&member)))
+}
+
+/// One hold for all three would last over two writes.
+#[test]
+fn no_hold_lasts_over_a_write_that_waits(rt: HostRuntime) -> Result<(), Fail> {
+    assert!(rt; draws_for_three(&rt, rt.alloc(), true) == Some(3));
+    assert!(rt; draws_for_three(&rt, rt.alloc(), false) == Some(1));
     Ok(())
 }
 
