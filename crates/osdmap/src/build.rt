@@ -5,13 +5,12 @@ mod osds;
 mod pools;
 
 use crate::map::OsdMap;
-use keylist::Entries;
 use mapparts::MapParts;
 use mapparts::fits::parts_fit;
 use mapparts::numbers::word;
 use mapparts::plain::map_is_plain;
 use maptypes::CrushMap;
-use osds::{presences_of, rows_of, weights_of};
+use osds::osds_of;
 pub(crate) use pools::has_rule;
 use pools::pools_of;
 use refusal::Refusal;
@@ -33,13 +32,13 @@ impl OsdMap {
         let max_osd = word(parts.max_osd);
         let crush = CrushMap::of_parts(alloc, &parts.buckets, &parts.rules, max_osd)?;
         let pools = pools_of(alloc, &parts.pools, crush.rules())?;
-        let rows = rows_of(alloc, &parts.osds, max_osd)?;
+        let osds = osds_of(alloc, &parts.osds, max_osd)?;
         Ok(OsdMap {
             epoch: u64::from(word(parts.epoch)),
             crush,
             pools,
-            presences: Entries::new(presences_of(alloc, &rows)?),
-            weights: Entries::new(weights_of(alloc, &rows)?),
+            presences: osds.presences,
+            weights: osds.weights,
             explicit: Vec::new(alloc),
             items: Vec::new(alloc),
             ready: None,

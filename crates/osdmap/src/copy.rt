@@ -17,12 +17,12 @@ impl OsdMap {
     {
         Ok(OsdMap {
             epoch: self.epoch,
-            crush: self.crush.copy(alloc)?,
             pools: Vec::from_slice(alloc, &self.pools)?,
             presences: self.presences.copy(alloc)?,
             weights: self.weights.copy(alloc)?,
             explicit: Vec::from_slice(alloc, &self.explicit)?,
             items: Vec::from_slice(alloc, &self.items)?,
+            crush: self.crush.copy(alloc)?,
             ready: None,
         })
     }

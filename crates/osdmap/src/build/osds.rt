@@ -10,6 +10,7 @@ ghost use Rattle.osdmap.specs.Stated.{osd_ok};
 ghost use Rattle.refusal.specs.Outcomes.{refused_unless};
 ghost use Rattle.osdmap.specs.Built.{osds_fit, state_of, rows_of, row_presence, row_weight};
 
+use keylist::Entries;
 use mapparts::OsdPart;
 use mapparts::numbers::word;
 use maptypes::{OsdState, Presence};
@@ -63,11 +64,7 @@ fn enter(rows: &mut Vec<Option<OsdState>>, osds: &[OsdPart]) -> bool
 
 /// What is listed of each OSD below `max_osd`: `BadOsd` (16) where an OSD is not below it, is up and does not exist, or
 /// is listed twice.
-pub(crate) fn rows_of(
-    alloc: Global,
-    osds: &[OsdPart],
-    max_osd: u32,
-) -> Result<Vec<Option<OsdState>>, Refusal>
+fn rows_of(alloc: Global, osds: &[OsdPart], max_osd: u32) -> Result<Vec<Option<OsdState>>, Refusal>
     requires { list_all osd_fits osds.now ≡ true }
     ensures { Makes result (refused_unless (osds_fit max_osd osds.now) BadOsd)
         (λ rows. rows.items ≡ rows_of osds.now max_osd) }
@@ -109,18 +106,36 @@ fn weight_of(row: &Option<OsdState>) -> u32
 }
 
 /// Whether each OSD exists and is up.
-pub(crate) fn presences_of(
-    alloc: Global,
-    rows: &[Option<OsdState>],
-) -> Result<Vec<Presence>, AllocError>
+fn presences_of(alloc: Global, rows: &[Option<OsdState>]) -> Result<Vec<Presence>, AllocError>
     ensures { IfOk result (λ presences. presences.items ≡ map row_presence rows.now) }
 {
     rows.iter().map(|row| presence_of(row)).collect(alloc)
 }
 
 /// The reweight of each OSD.
-pub(crate) fn weights_of(alloc: Global, rows: &[Option<OsdState>]) -> Result<Vec<u32>, AllocError>
+fn weights_of(alloc: Global, rows: &[Option<OsdState>]) -> Result<Vec<u32>, AllocError>
     ensures { IfOk result (λ weights. weights.items ≡ map row_weight rows.now) }
 {
     rows.iter().map(|row| weight_of(row)).collect(alloc)
+}
+
+/// What parts state of OSDs: whether each exists and is up, and its reweight.
+#[derive(Drop)]
+pub(crate) struct Osds {
+    pub presences: Entries<Presence>,
+    pub weights: Entries<u32>,
+}
+
+/// The OSDs below `max_osd` that parts state.
+pub(crate) fn osds_of(alloc: Global, osds: &[OsdPart], max_osd: u32) -> Result<Osds, Refusal>
+    requires { list_all osd_fits osds.now ≡ true }
+    ensures { Makes result (refused_unless (osds_fit max_osd osds.now) BadOsd)
+        (λ o. (o.presences ≡ map row_presence (rows_of osds.now max_osd))
+        × (o.weights ≡ map row_weight (rows_of osds.now max_osd))) }
+{
+    let rows = rows_of(alloc, osds, max_osd)?;
+    Ok(Osds {
+        presences: Entries::new(presences_of(alloc, &rows)?),
+        weights: Entries::new(weights_of(alloc, &rows)?),
+    })
 }

@@ -56,8 +56,8 @@ pools_of-requires c =
     let each = parts_fit_each c.args.parts.now c.requires in
     rw c.deref-3.ensures each.pools
 
-pub rows_of-requires : goal.rows_of-requires
-rows_of-requires c =
+pub osds_of-requires : goal.osds_of-requires
+osds_of-requires c =
     let each = parts_fit_each c.args.parts.now c.requires in
     rw c.deref-4.ensures each.osds
 
@@ -88,8 +88,8 @@ returns-in_err-pools c =
     let found = rw c.deref-3.ensures at c.in_err-pools.ensures in
     stops c.from_residual-in_err-pools.result (λ (m : StoredMap). IsStated (without_exceptions c.args.parts.now) m.map) (map_fault (without_exceptions c.args.parts.now)) _ e (fault_pool (without_exceptions c.args.parts.now) c.rules.result.now e limits grown rising) found c.from_residual-in_err-pools.ensures.1
 
-pub returns-in_err-rows : goal.returns-in_err-rows
-returns-in_err-rows c =
+pub returns-in_err-osds : goal.returns-in_err-osds
+returns-in_err-osds c =
     let limits = bare_fits c.args.parts.now c.requires in
     let fits : SFits w128 c.args.parts.now.max_osd = search rules in
     let max_osd : c.word-max_osd.result ≡ nat_abs c.args.parts.now.max_osd = rw to_z-of_z at c.word-max_osd.ensures in
@@ -97,37 +97,37 @@ returns-in_err-rows c =
     let stated = rw (c.deref.ensures, c.deref-2.ensures) at c.in_ok-crush.ensures.1 in
     let rising = rw (← c.rules.ensures.value) at stated.rules in
     let served = rw c.deref-3.ensures at c.in_ok-pools.ensures.0 in
-    let e = c.in_err-rows.field-0.0 in
-    let found = rw (c.deref-4.ensures, max_osd) at c.in_err-rows.ensures in
-    stops c.from_residual-in_err-rows.result (λ (m : StoredMap). IsStated (without_exceptions c.args.parts.now) m.map) (map_fault (without_exceptions c.args.parts.now)) _ e (fault_osd (without_exceptions c.args.parts.now) c.rules.result.now e limits grown rising served) found c.from_residual-in_err-rows.ensures.1
+    let e = c.in_err-osds.field-0.0 in
+    let found = rw (c.deref-4.ensures, max_osd) at c.in_err-osds.ensures in
+    stops c.from_residual-in_err-osds.result (λ (m : StoredMap). IsStated (without_exceptions c.args.parts.now) m.map) (map_fault (without_exceptions c.args.parts.now)) _ e (fault_osd (without_exceptions c.args.parts.now) c.rules.result.now e limits grown rising served) found c.from_residual-in_err-osds.ensures.1
 
-pub invariant_of-result-2 : goal.invariant_of-result-2
-invariant_of-result-2 c =
+pub invariant_of-result : goal.invariant_of-result
+invariant_of-result c =
     let limits = bare_fits c.args.parts.now c.requires in
     let fits : SFits w128 c.args.parts.now.max_osd = search rules in
     let max_osd : c.word-max_osd.result ≡ nat_abs c.args.parts.now.max_osd = rw to_z-of_z at c.word-max_osd.ensures in
     let grown = rw (c.deref.ensures, c.deref-2.ensures, max_osd) at c.in_ok-crush.ensures.0 in
-    let stated = rw (c.deref.ensures, c.deref-2.ensures, ← c.crush.view_is) at c.in_ok-crush.ensures.1 in
-    let rules = rw (← c.crush.view_is) at c.rules.ensures.value in
+    let stated = rw (c.deref.ensures, c.deref-2.ensures) at c.in_ok-crush.ensures.1 in
+    let rules = c.rules.ensures.value in
     let served = rw (c.deref-3.ensures, rules) at c.in_ok-pools.ensures.0 in
     let pools = rw c.deref-3.ensures at c.in_ok-pools.ensures.1 in
-    let entered = rw (c.deref-4.ensures, max_osd) at c.in_ok-rows.ensures.0 in
-    let rows : c.in_ok-rows.rows.items ≡ rows_of c.args.parts.now.osds (nat_abs c.args.parts.now.max_osd) = rw (c.deref-4.ensures, max_osd) at c.in_ok-rows.ensures.1 in
+    let entered = rw (c.deref-4.ensures, max_osd) at c.in_ok-osds.ensures.0 in
+    let osds = rw (c.deref-4.ensures, max_osd) at c.in_ok-osds.ensures.1 in
     let epoch_fits : SFits w128 c.args.parts.now.epoch = search rules in
     let epoch : c.word.result ≡ nat_abs c.args.parts.now.epoch = rw to_z-of_z at c.word.ensures in
     let built : IsBuilt (without_exceptions c.args.parts.now) _ = record {
       limits = limits;
       epoch = c.from.ensures ∙ epoch;
       grown = grown;
-      crush = rw (← c.crush.view_is) at c.rules.ensures.lawful;
+      crush = c.rules.ensures.lawful;
       stated = stated;
       served = served;
       pools = pools;
       entered = entered;
-      presences = c.new.ensures ∙ c.in_ok-presences_of.ensures ∙ ap (map row_presence) (c.deref-5.ensures.value ∙ rows);
-      weights = c.new-2.ensures ∙ c.in_ok-weights_of.ensures ∙ ap (map row_weight) (c.deref-6.ensures.value ∙ rows);
-      explicit = c.new-3.ensures.items;
-      items = c.new-4.ensures.items;
+      presences = osds.0;
+      weights = osds.1;
+      explicit = c.new.ensures.items;
+      items = c.new-2.ensures.items;
     } in
     holds (without_exceptions c.args.parts.now) _ built
 
@@ -137,26 +137,26 @@ returns c =
     let fits : SFits w128 c.args.parts.now.max_osd = search rules in
     let max_osd : c.word-max_osd.result ≡ nat_abs c.args.parts.now.max_osd = rw to_z-of_z at c.word-max_osd.ensures in
     let grown = rw (c.deref.ensures, c.deref-2.ensures, max_osd) at c.in_ok-crush.ensures.0 in
-    let stated = rw (c.deref.ensures, c.deref-2.ensures, ← c.crush.view_is) at c.in_ok-crush.ensures.1 in
-    let rules = rw (← c.crush.view_is) at c.rules.ensures.value in
+    let stated = rw (c.deref.ensures, c.deref-2.ensures) at c.in_ok-crush.ensures.1 in
+    let rules = c.rules.ensures.value in
     let served = rw (c.deref-3.ensures, rules) at c.in_ok-pools.ensures.0 in
     let pools = rw c.deref-3.ensures at c.in_ok-pools.ensures.1 in
-    let entered = rw (c.deref-4.ensures, max_osd) at c.in_ok-rows.ensures.0 in
-    let rows : c.in_ok-rows.rows.items ≡ rows_of c.args.parts.now.osds (nat_abs c.args.parts.now.max_osd) = rw (c.deref-4.ensures, max_osd) at c.in_ok-rows.ensures.1 in
+    let entered = rw (c.deref-4.ensures, max_osd) at c.in_ok-osds.ensures.0 in
+    let osds = rw (c.deref-4.ensures, max_osd) at c.in_ok-osds.ensures.1 in
     let epoch_fits : SFits w128 c.args.parts.now.epoch = search rules in
     let epoch : c.word.result ≡ nat_abs c.args.parts.now.epoch = rw to_z-of_z at c.word.ensures in
     let built : IsBuilt (without_exceptions c.args.parts.now) _ = record {
       limits = limits;
       epoch = c.from.ensures ∙ epoch;
       grown = grown;
-      crush = rw (← c.crush.view_is) at c.rules.ensures.lawful;
+      crush = c.rules.ensures.lawful;
       stated = stated;
       served = served;
       pools = pools;
       entered = entered;
-      presences = c.new.ensures ∙ c.in_ok-presences_of.ensures ∙ ap (map row_presence) (c.deref-5.ensures.value ∙ rows);
-      weights = c.new-2.ensures ∙ c.in_ok-weights_of.ensures ∙ ap (map row_weight) (c.deref-6.ensures.value ∙ rows);
-      explicit = c.new-3.ensures.items;
-      items = c.new-4.ensures.items;
+      presences = osds.0;
+      weights = osds.1;
+      explicit = c.new.ensures.items;
+      items = c.new-2.ensures.items;
     } in
     (no_fault (without_exceptions c.args.parts.now) _ built (bare_exceptions c.args.parts.now), is_stated (without_exceptions c.args.parts.now) _ built refl refl)
