@@ -43,7 +43,7 @@ said_others m p v n other =
 
 -- ---- mapped sets
 
--- whether an OSD of an explicit set is out for good
+-- whether an OSD of an explicit set is out
 abbrev is_void : List ℕ → Option (List ℕ) → Bool
 is_void weights explicit = option_map_or (λ osds. list_any (is_weightless weights) osds) explicit false
 

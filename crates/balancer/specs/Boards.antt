@@ -19,7 +19,7 @@ use Rattle.balancer.specs.Moves.{move_of, pair_of_move, pairs_in, last_level, le
 use Rattle.balancer.specs.Greedy.{gap, is_good, beats, best_move, after_moves}
 use Rattle.balancer.specs.Plans.{is_moved, items_at}
 
--- whether an OSD of the explicit set of a group is out for good, so that pairs do nothing
+-- whether an OSD of the explicit set of a group is out, so that pairs do nothing
 unfoldable pub is_fixed : ClusterMap → Pg → Bool
 is_fixed m g = option_map_or (λ osds. list_any (is_weightless m.weights) osds) (said_of m.explicit g) false
 

@@ -20,7 +20,7 @@ has_one_block steps = count_by is_emit steps == 1
 -- ---- candidates
 
 -- whether groups of a pool may be moved from or to an OSD: it is under the bucket that the pool's rule takes, exists,
--- is up, and is not out for good
+-- is up, and is not out
 unfoldable pub is_candidate : ClusterMap → PoolFacts → ℕ → Bool
 is_candidate m p osd =
     paths.reaches m.buckets (steps_of m p) (pos osd) && osd_exists m osd && osd_is_up m osd

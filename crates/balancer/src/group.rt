@@ -23,7 +23,7 @@ pub struct Group {
     pub places: Short<Option<u32>>,
     /// Its pairs.
     pub pairs: Short<Pair>,
-    /// Whether an OSD of its explicit set is out for good, so that pairs do nothing.
+    /// Whether an OSD of its explicit set is out, so that pairs do nothing.
     pub is_fixed: bool,
 }
 
@@ -49,7 +49,7 @@ fn pairs_in(map: &OsdMap, pg: Pg) -> Short<Pair>
     }
 }
 
-/// Whether an OSD of the explicit set of a group is out for good, so that pairs do nothing.
+/// Whether an OSD of the explicit set of a group is out, so that pairs do nothing.
 #[tactic(auto, unfolding(crate::specs::Boards::is_fixed))]
 fn is_fixed(map: &OsdMap, pg: Pg) -> bool
     ensures { result ≡ is_fixed map.now.map pg }

@@ -32,7 +32,7 @@ fn reaches(map: &OsdMap, pool: &Pool, osd: u32) -> bool
     }
 }
 
-/// Whether an OSD exists, is up, and is not out for good.
+/// Whether an OSD exists, is up, and is not out.
 fn is_in_use(map: &OsdMap, osd: u32) -> bool
     ensures { result ≡ (osd_exists map.now.map osd && osd_is_up map.now.map osd
         && not (is_weightless map.now.map.weights osd)) }

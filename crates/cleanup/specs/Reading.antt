@@ -20,14 +20,14 @@ takes_at buckets id (step.Choose _) = false
 takes_at buckets id step.Emit = false
 
 -- a bucket that a rule takes, or that stands below one that it takes
-abbrev pub within : List Bucket → List Step → ℤ → Option ℤ
-within buckets steps id = if list_any (takes_at buckets id) steps then Some id else None
+abbrev pub within_takes : List Bucket → List Step → ℤ → Option ℤ
+within_takes buckets steps id = if list_any (takes_at buckets id) steps then Some id else None
 
 -- the bucket of a type below which the OSD of a place stands (get_parent_of_type)
 unfoldable pub holder : List Bucket → List Step → ℕ → Option ℕ → Option ℤ
 holder buckets steps level None = None
 holder buckets steps level (Some osd) =
-    option_and_then (within buckets steps) (ancestor_of buckets (pos osd) level)
+    option_and_then (within_takes buckets steps) (ancestor_of buckets (pos osd) level)
 
 -- whether two are the same bucket
 abbrev pub is_same : Option ℤ → Option ℤ → Bool

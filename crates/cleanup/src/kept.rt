@@ -9,7 +9,7 @@ ghost use Rattle.maptypes.specs.Exceptions.{said_of};
 ghost use Rattle.maptypes.specs.Sets.{is_of};
 ghost use Rattle.osdmap.specs.Mapped.{is_weightless};
 ghost use Rattle.osdmap.specs.Placement.{group_fault, group_of, steps_of, raw_set, mapped_set, RunsOnce};
-ghost use Rattle.cleanup.specs.Kept.{is_weighed, is_lawful, says_more, serves, acts, remnant_at};
+ghost use Rattle.cleanup.specs.Kept.{is_weighed, is_set_lawful, says_more, explicit_serves, acts, remnant_at};
 
 use crate::reading::Reading;
 use crush::{Forest, Step, Work};
@@ -141,9 +141,9 @@ impl Judge<'_> {
     }
 
     /// Whether a set may stand in the pool.
-    #[tactic(auto, unfolding(crate::specs::Kept::is_lawful))]
+    #[tactic(auto, unfolding(crate::specs::Kept::is_set_lawful))]
     fn is_lawful(&self, set: &UpSet) -> bool
-        ensures { result ≡ is_lawful self.now.map.now.map self.now.pool set.now }
+        ensures { result ≡ is_set_lawful self.now.map.now.map self.now.pool set.now }
     {
         let reading = Reading {
             forest: self.map.forest(),
@@ -155,7 +155,7 @@ impl Judge<'_> {
 
     /// Whether an explicit set serves.
     fn serves(&self, raw: &UpSet, osds: &[u32]) -> bool
-        ensures { result ≡ serves self.now.pool raw.now osds.now }
+        ensures { result ≡ explicit_serves self.now.pool raw.now osds.now }
     {
         says_more(raw.places(), osds) && osds.len() == usize::from(self.pool.size())
     }
@@ -163,7 +163,7 @@ impl Judge<'_> {
     /// Whether a group's explicit set serves, where it has one.
     fn has_good_set(&self, raw: &UpSet, pg: Pg) -> bool
         ensures { result
-            ≡ option_map_or (serves self.now.pool raw.now) (said_of self.now.map.now.map.explicit pg) true }
+            ≡ option_map_or (explicit_serves self.now.pool raw.now) (said_of self.now.map.now.map.explicit pg) true }
     {
         match self.map.explicit(pg) {
             None => true,

@@ -5,7 +5,7 @@ ghost use Rattle.std.specs.List.{list_any, list_all};
 ghost use Rattle.crush.specs.Limits.{max_size};
 ghost use Rattle.maptypes.specs.Sets.{is_of};
 ghost use Rattle.crush.specs.Run.{numrep_of};
-ghost use Rattle.cleanup.specs.Reading.{takes_at, within, holder, is_same, clash, are_apart, is_new, spread, suits, is_below, reads, may_stand};
+ghost use Rattle.cleanup.specs.Reading.{takes_at, within_takes, holder, is_same, clash, are_apart, is_new, spread, suits, is_below, reads, may_stand};
 
 use crush::{Choose, Forest, Step};
 
@@ -72,7 +72,7 @@ impl Reading<'_> {
 
     /// A bucket, where the rule takes it or one above it.
     fn within(&self, id: i32) -> Option<i32>
-        ensures { result ≡ within self.now.forest.now self.now.steps.now id }
+        ensures { result ≡ within_takes self.now.forest.now self.now.steps.now id }
     {
         if self.takes(id) { Some(id) } else { None }
     }

@@ -7,9 +7,9 @@ use Rattle.keeping.specs.declared.keeps.NotKept.TheVariants.{Memory, Failed}
 use Rattle.keeping.specs.Journals.{Journal, HasAll}
 
 -- what an error says
-abbrev pub said : NotKept → List ℕ
-said Memory = codes "memory is short"
-said Failed = codes "the store has failed"
+abbrev pub not_kept_text : NotKept → List ℕ
+not_kept_text Memory = codes "memory is short"
+not_kept_text Failed = codes "the store has failed"
 
 -- a journal is kept: the store holds it, unless it has failed, as only a store does that may; and whatever a crash
 -- leaves, it is the whole journal, and at most the next incremental more

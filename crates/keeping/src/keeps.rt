@@ -15,9 +15,9 @@ pub enum NotKept {
 
 impl fmt::Display for NotKept {
     ghost use Rattle.std.specs.Prelude.{Some};
-    ghost use Rattle.keeping.specs.Stores.{said};
+    ghost use Rattle.keeping.specs.Stores.{not_kept_text};
 
-    ghost output = { λ e. Some (said e) };
+    ghost output = { λ e. Some (not_kept_text e) };
 
     fn fmt<W: fmt::Write>(&self, f: &mut fmt::Formatter<W>) -> fmt::Result {
         f.write_str(match self {

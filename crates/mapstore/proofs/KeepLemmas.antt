@@ -10,13 +10,13 @@ use Rattle.journalstore.specs.declared.store.TextStore.{TextStore}
 use Rattle.journalstore.specs.Texts.{Entry, Texts, with_change, IsAfter, StandsFor}
 use Rattle.journalstore.specs.Stores.{Holds, Leaves}
 use Rattle.journalstore.proofs.EntryLemmas.{one_text}
-use Rattle.mapstore.specs.JournalTexts.{step_entry, behind, IsTextedStep}
+use Rattle.mapstore.specs.JournalTexts.{step_entry, with_steps, IsTextedStep}
 use Rattle.mapstore.specs.OneJournal.{one_journal}
 use Rattle.mapstore.specs.Stores.{HoldsJournal, MayLeaveJournal, IsBehind, past_of, texts_of}
 use Rattle.mapstore.specs.declared.store.MapStore.{MapStore}
 
 -- texts with one incremental more behind them
-behind_more : (past : Texts) (steps : List Step) (step : Step) → with_change (behind past steps) (step_entry step) ≡ behind past (steps ++ step ∷ [])
+behind_more : (past : Texts) (steps : List Step) (step : Step) → with_change (with_steps past steps) (step_entry step) ≡ with_steps past (steps ++ step ∷ [])
 behind_more past steps step =
     let own = map-append step_entry steps (step ∷ []) in
     let all = append_assoc past.changes (map step_entry steps) (step_entry step ∷ []) ∙ ap (λ (es : List Entry). past.changes ++ es) (sym own) in

@@ -18,7 +18,7 @@ use Rattle.journalstore.specs.Stores.{Holds}
 use Rattle.journalstore.specs.Texts.{Entry, Texts}
 use Rattle.mapjson.specs.Written.{written}
 use Rattle.mapjson.proofs.OneText.{one_map}
-use Rattle.mapstore.specs.JournalTexts.{behind, begun, IsTextedMap, IsTextedStep}
+use Rattle.mapstore.specs.JournalTexts.{with_steps, begun, IsTextedMap, IsTextedStep}
 use Rattle.mapstore.specs.Openings.{IsRow, IsMapOf}
 use Rattle.mapstore.specs.Stores.{HoldsJournal, IsBehind, past_of, texts_of}
 use Rattle.mapstore.specs.declared.store.MapStore.{MapStore}
@@ -85,7 +85,7 @@ texts_within t m stands =
     entries_within m.epoch t.changes stands.rows stands.are (subst (λ (n : ClusterMap). All (λ (r : Row). r.epoch ≤ n.epoch) stands.rows) (sym is) within)
 
 -- texts with none behind them are themselves
-pub behind_none : (t : Texts) → behind t [] ≡ t
+pub behind_none : (t : Texts) → with_steps t [] ≡ t
 behind_none t = ap (λ (changes : List Entry). record t { changes = changes }) (append-nil t.changes)
 
 -- a store that holds the texts that were found holds the journal that begins with their map

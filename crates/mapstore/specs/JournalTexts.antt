@@ -45,8 +45,8 @@ abbrev pub IsTextedStep : Step → Type 0
 IsTextedStep step = stated_by stated_change (change_text step) ≡ Ok (change_parts (step.epoch - 1) step.change)
 
 -- texts with those of incrementals behind them
-abbrev pub behind : Texts → List Step → Texts
-behind t steps = record t { changes = t.changes ++ map step_entry steps }
+abbrev pub with_steps : Texts → List Step → Texts
+with_steps t steps = record t { changes = t.changes ++ map step_entry steps }
 
 -- the journal of a map and no incremental
 abbrev pub begun : ClusterMap → Journal

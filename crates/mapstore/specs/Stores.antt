@@ -7,7 +7,7 @@ use Rattle.keeping.specs.Journals.{Journal}
 use Rattle.journalstore.specs.Read.{texts_read}
 use Rattle.journalstore.specs.Stores.{Holds, MayLeave}
 use Rattle.journalstore.specs.Texts.{Entry, Texts}
-use Rattle.mapstore.specs.JournalTexts.{behind, IsTextedStep}
+use Rattle.mapstore.specs.JournalTexts.{with_steps, IsTextedStep}
 use Rattle.mapstore.specs.Openings.{IsMapOf}
 use Rattle.mapstore.specs.declared.store.MapStore.{MapStore}
 
@@ -25,7 +25,7 @@ module _ {S : Type 0} (store : MapStore S) where
 
   -- the texts of a journal
   abbrev pub texts_of : Journal → Texts
-  texts_of j = behind past_of j.steps
+  texts_of j = with_steps past_of j.steps
 
 module _ {S : Type 0} (g : Ghosts S) where
   -- its texts are those of the journal, and a crash leaves no others; no epoch is above the last one that it knows

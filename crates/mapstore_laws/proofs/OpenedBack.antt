@@ -23,7 +23,7 @@ use Rattle.keeping.specs.Journals.{Journal}
 use Rattle.journalstore.specs.Texts.{Entry, Texts}
 use Rattle.mapstore.specs.declared.error.OpenError.{OpenError}
 use Rattle.mapstore.specs.declared.error.OpenError.TheVariants.{Store, Journal as NoJournal, NoProfile, LateEpoch}
-use Rattle.mapstore.specs.JournalTexts.{change_text, row_text, step_entry, journal_texts, behind}
+use Rattle.mapstore.specs.JournalTexts.{change_text, row_text, step_entry, journal_texts, with_steps}
 use Rattle.mapstore.specs.OneJournal.{stands_behind}
 use Rattle.mapstore.specs.Openings.{IsRow, IsWordless, IsMapOf, IsUnopened}
 use Rattle.mapstore_laws.specs.OpeningLaws.{IsOfMonitor, MayRefuse, IsOpenedBack, with_later}
@@ -138,5 +138,5 @@ module _ (j : Journal) (of : IsOfMonitor j) (first : IsTextOf (written j.first) 
   opened_back = record { map = map_is; refused = refused_by }
 
 -- the texts of a journal with those of later runs behind them are those of the whole
-pub later_texts : (j : Journal) (later : List Step) → journal_texts (with_later j later) ≡ behind (journal_texts j) later
+pub later_texts : (j : Journal) (later : List Step) → journal_texts (with_later j later) ≡ with_steps (journal_texts j) later
 later_texts j later = ap (λ (changes : List Entry). record (journal_texts j) { changes = changes }) (map-append step_entry j.steps later)

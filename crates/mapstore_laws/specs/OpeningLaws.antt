@@ -13,7 +13,7 @@ use Rattle.keeping.specs.Journals.{Journal, HasAll}
 use Rattle.mapstore.specs.declared.error.OpenError.{OpenError}
 use Rattle.mapstore.specs.declared.error.OpenError.TheVariants.{Store, Journal as NoJournal, NoProfile, LateEpoch}
 use Rattle.journalstore.specs.Texts.{Texts}
-use Rattle.mapstore.specs.JournalTexts.{journal_texts, behind}
+use Rattle.mapstore.specs.JournalTexts.{journal_texts, with_steps}
 use Rattle.mapstore.specs.Openings.{IsMapOf, IsUnopened}
 
 -- a journal that a monitor may have: lawful changes from a first map, each with an epoch of 64 bits
@@ -49,4 +49,4 @@ with_later j later = record j { steps = j.steps ++ later }
 abbrev pub AreOpened : ClusterMap → Type 0
 AreOpened first =
     (j : Journal) (later left : List Step) → j.first ≡ first → IsOfMonitor (with_later j later)
-    → HasAll (with_later j later) (with_later j left) → IsOpenedBack (behind (journal_texts j) left) (with_later j left)
+    → HasAll (with_later j later) (with_later j left) → IsOpenedBack (with_steps (journal_texts j) left) (with_later j left)

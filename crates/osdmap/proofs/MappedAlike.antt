@@ -26,7 +26,7 @@ all_behind P [] ys all = all
 all_behind P (x ∷ xs) ys all = all_behind P xs ys (All-tail P x (xs ++ ys) all)
 
 module _ (weights others : List ℕ) where
-  -- an OSD on which they agree is out for good under both or none
+  -- an OSD on which they agree is out under both or none
   weightless_alike : (osd : ℕ) → slice_index weights osd ≡ slice_index others osd → is_weightless weights osd ≡ is_weightless others osd
   weightless_alike osd same = rw same
 

@@ -10,7 +10,7 @@ impl OsdMap {
     ghost use Rattle.buckets.specs.Limits.{max_devices};
     ghost use Rattle.osdmap.specs.Mapped.{is_weightless, with_pair, with_exceptions};
 
-    /// Whether an OSD is out for good.
+    /// Whether an OSD is out: its reweight is 0.
     fn is_weightless(&self, osd: u32) -> bool
         ensures value { result ≡ is_weightless self.now.map.weights osd }
         ensures small { result ≡ false → osd < max_devices }
@@ -18,7 +18,7 @@ impl OsdMap {
         self.weights.get(osd as usize).copied().unwrap_or(0) == 0
     }
 
-    /// Whether one of some OSDs is out for good: its reweight is 0.
+    /// Whether one of some OSDs is out.
     pub fn has_weightless(&self, osds: &[u32]) -> bool
         ensures value { result ≡ list_any (is_weightless self.now.map.weights) osds.now }
         ensures small { result ≡ false → All (λ osd. osd < max_devices) osds.now }

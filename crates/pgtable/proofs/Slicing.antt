@@ -10,7 +10,7 @@ use Rattle.maptypes.specs.declared.change.ChangeParts.{ChangeParts}
 use Rattle.maptypes.specs.Exceptions.{pg_key}
 use Rattle.maptypes.specs.Pools.{PoolFacts}
 use Rattle.osdmap.specs.Maps.{ClusterMap}
-use Rattle.pgtable.specs.Candidates.{number_at, numbers_in, is_in}
+use Rattle.pgtable.specs.Candidates.{number_at, numbers_in, is_of_pool}
 
 -- a number not below another, and one below it
 le_true : (a b : ℕ) → a ≤ b → nat_le a b ≡ true
@@ -73,16 +73,16 @@ no_number q base n key out = elim (cases_Bool (nat_le base key)) [
 ]
 
 -- the numbers in a pool of groups are those of the groups that stand in it
-pub numbers-in_pool : (m : ClusterMap) (c : ChangeParts) (p : PoolFacts) (groups slice : List Pg) → slice ≡ filter (is_in p) groups → numbers_in m c p slice ≡ numbers_in m c p groups
+pub numbers-in_pool : (m : ClusterMap) (c : ChangeParts) (p : PoolFacts) (groups slice : List Pg) → slice ≡ filter (is_of_pool p) groups → numbers_in m c p slice ≡ numbers_in m c p groups
 numbers-in_pool m c p groups slice e = rw e (all groups)
   where
-    all : (groups : List Pg) → numbers_in m c p (filter (is_in p) groups) ≡ numbers_in m c p groups
+    all : (groups : List Pg) → numbers_in m c p (filter (is_of_pool p) groups) ≡ numbers_in m c p groups
     all [] = refl
-    all (g ∷ gs) = elim (cases_Bool (is_in p g)) [
+    all (g ∷ gs) = elim (cases_Bool (is_of_pool p g)) [
       | inl inside ↦ rw (inside, all gs) refl
       | inr out ↦ rw (out, no_number _ (p.id * 2 ^ 32) p.pg_num (pg_key g) out) (all gs)
     ]
 
 -- groups from the key of a pool's first group on, and of these those before the key behind its last, are those in it
-pub in_pool : (p : PoolFacts) (first end : ℕ) (later slice groups : List Pg) → later ≡ filter (λ g. nat_le first (pg_key g)) groups → slice ≡ filter (λ g. nat_lt (pg_key g) end) later → (first ≡ p.id * 2 ^ 32) × (end ≡ p.id * 2 ^ 32 + p.pg_num) → slice ≡ filter (is_in p) groups
+pub in_pool : (p : PoolFacts) (first end : ℕ) (later slice groups : List Pg) → later ≡ filter (λ g. nat_le first (pg_key g)) groups → slice ≡ filter (λ g. nat_lt (pg_key g) end) later → (first ≡ p.id * 2 ^ 32) × (end ≡ p.id * 2 ^ 32 + p.pg_num) → slice ≡ filter (is_of_pool p) groups
 in_pool p first end later slice groups e f is = f ∙ rw (e, is.0, is.1) (filter-filter (λ g. nat_le (p.id * 2 ^ 32) (pg_key g)) (λ g. nat_lt (pg_key g) (p.id * 2 ^ 32 + p.pg_num)) groups)

@@ -53,8 +53,8 @@ abbrev pub concerned_number : ClusterMap → ChangeParts → PoolFacts → Pg �
 concerned_number m c p g = number_at (λ n. concerns m c (group_of p n)) (p.id * 2 ^ 32) p.pg_num (pg_key g)
 
 -- whether a group stands in a pool
-abbrev pub is_in : PoolFacts → Pg → Bool
-is_in p g = nat_le (p.id * 2 ^ 32) (pg_key g) && nat_lt (pg_key g) (p.id * 2 ^ 32 + p.pg_num)
+abbrev pub is_of_pool : PoolFacts → Pg → Bool
+is_of_pool p g = nat_le (p.id * 2 ^ 32) (pg_key g) && nat_lt (pg_key g) (p.id * 2 ^ 32 + p.pg_num)
 
 -- the numbers in a pool of those of some groups that a change concerns
 abbrev pub numbers_in : ClusterMap → ChangeParts → PoolFacts → List Pg → List ℕ

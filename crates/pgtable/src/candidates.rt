@@ -7,7 +7,7 @@ ghost use Rattle.maptypes.specs.declared.pg.Pg.{Pg};
 ghost use Rattle.maptypes.specs.declared.change.ChangeParts.{ChangeParts};
 ghost use Rattle.osdmap.specs.Changes.{change_fault};
 ghost use Rattle.osdmap.specs.Maps.{ClusterMap};
-ghost use Rattle.pgtable.specs.Candidates.{excepted_groups, union_of, NamedRise, IsCandidates, named_groups, candidates, is_in, numbers_in};
+ghost use Rattle.pgtable.specs.Candidates.{excepted_groups, union_of, NamedRise, IsCandidates, named_groups, candidates, is_of_pool, numbers_in};
 
 use keylist::{Keyed, put_all};
 use maptypes::{Blank, Change, Exception, Explicit, Items, Pg, Pool};
@@ -149,7 +149,7 @@ fn below_key(groups: &[Pg], key: u64) -> &[Pg]
 /// Those of some groups, in ascending order, that stand in a pool; by halving.
 fn slice_in<'a>(pool: &Pool, groups: &'a [Pg]) -> &'a [Pg]
     requires { IsRising pg_key groups.now }
-    ensures { result.now ≡ filter (is_in pool.now) groups.now }
+    ensures { result.now ≡ filter (is_of_pool pool.now) groups.now }
 {
     let first = Pg {
         pool: pool.id(),

@@ -46,8 +46,8 @@ abbrev pub sight_in : {K : Type 0} → Shared K → Member → Option Followed �
 sight_in shared member follower = record { member = account_in shared member; follower = track_of follower }
 
 -- what a member has seen, before its session has a follower
-abbrev pub sight_of : Member → Sight
-sight_of member = sight_by member None
+abbrev pub first_sight : Member → Sight
+first_sight member = sight_by member None
 
 -- the follower, where there is one, is of this monitor
 abbrev pub IsFollowerOf : Monitored → Option Followed → Type 0

@@ -77,7 +77,7 @@ impl<'a, R: Wait, G: Gate, K: Keeps + Drop> Desk<'a, R, G, K> {
     ghost use Rattle.std.specs.Prelude.{◌≡◌, ◌++◌, ◌+◌, ◌<◌, ◌^◌, [], true, false, length, IfOk, OnOk, IfErr};
     ghost use Rattle.std.specs.Io.KnownBytes.{IsAtEnd};
     ghost use Rattle.monitor.specs.Members.{IsMemberOf};
-    ghost use Rattle.session.specs.Sessions.{session_at, sight_of, account, stand, reader_at, IsAtDesk, IsReadOut, IsCutShort};
+    ghost use Rattle.session.specs.Sessions.{session_at, first_sight, account, stand, reader_at, IsAtDesk, IsReadOut, IsCutShort};
     ghost use Rattle.session.specs.Readings.{IsPart, AnswersLine, AnswersLines, AnswersAll, TakesMore};
     ghost use Rattle.session.specs.Ends.{has_sink_failed};
 
@@ -211,9 +211,9 @@ impl<'a, R: Wait, G: Gate, K: Keeps + Drop> Desk<'a, R, G, K> {
         ensures member { IsMemberOf self.now.monitor.now member.new }
         ensures out { OnOk result (W.holds_back sink.new ≡ false) }
         ensures ok { OnOk result (IsReadOut (session_at self.now G.lets) (B.remaining reader.old)
-            (sight_of member.old) (account member.new) (W.written sink.old) (W.written sink.new)) }
+            (first_sight member.old) (account member.new) (W.written sink.old) (W.written sink.new)) }
         ensures err { IfErr result (IsCutShort (session_at self.now G.lets) (B.remaining reader.old)
-            (B.remaining reader.new) (sight_of member.old) (account member.new)
+            (B.remaining reader.new) (first_sight member.old) (account member.new)
             (W.written sink.old) (W.written sink.new)) }
         ensures failed { W.has_failed sink.new ≡ has_sink_failed result }
     {

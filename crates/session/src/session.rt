@@ -11,7 +11,7 @@ use std::sync::Wait;
 impl<'a, R: Wait, G: Gate, K: Keeps + Drop> Desk<'a, R, G, K> {
     ghost use Rattle.std.specs.Prelude.{◌≡◌, false, OnOk, IfErr};
     ghost use Rattle.monitor.specs.Members.{IsMemberOf};
-    ghost use Rattle.session.specs.Sessions.{sight_of, account, session_at, IsPlayed, IsStopped};
+    ghost use Rattle.session.specs.Sessions.{first_sight, account, session_at, IsPlayed, IsStopped};
     ghost use Rattle.session.specs.Ends.{has_sink_failed};
 
     /// Runs a script for a member of the monitor: does the command of each line in order, and writes its answer whole
@@ -38,9 +38,9 @@ impl<'a, R: Wait, G: Gate, K: Keeps + Drop> Desk<'a, R, G, K> {
         requires member { IsMemberOf self.now.monitor.now member.old }
         requires unfailed { W.has_failed sink.old ≡ false }
         ensures member { IsMemberOf self.now.monitor.now member.new }
-        ensures ok { OnOk result (IsPlayed (session_at self.now G.lets) (sight_of member.old) script.now
+        ensures ok { OnOk result (IsPlayed (session_at self.now G.lets) (first_sight member.old) script.now
             (account member.new) (W.written sink.old) (W.written sink.new)) }
-        ensures err { IfErr result (IsStopped (session_at self.now G.lets) (sight_of member.old) script.now
+        ensures err { IfErr result (IsStopped (session_at self.now G.lets) (first_sight member.old) script.now
             (account member.new) (W.written sink.old) (W.written sink.new)) }
         ensures failed { W.has_failed sink.new ≡ has_sink_failed result }
     {

@@ -3,7 +3,7 @@ use mir.Syntax.{w32}
 use mir.Val.{SFits, to_z, of_z}
 use Rattle.std.proofs.lemmas.Int.{to_z-of_z}
 use Rattle.crush.specs.Paths.{ancestor_of}
-use Rattle.cleanup.specs.Reading.{within, holder}
+use Rattle.cleanup.specs.Reading.{within_takes, holder}
 use Rattle.cleanup.proofs.reading.Reading.holder.Goals as goal
 
 pub returns-in-Some-ancestor_of_device : goal.returns-in-Some-ancestor_of_device

@@ -1,7 +1,7 @@
 use Rattle.std.proofs.Common.{◌≡◌, ◌++◌, ℕ, List, refl, subst, IfErr}
 use Rattle.session.specs.Answers.{Sight}
 use Rattle.session.specs.Readings.{Stand, Passes, Halted}
-use Rattle.session.specs.Sessions.{account, sight_of, session_of, stand, IsStopped}
+use Rattle.session.specs.Sessions.{account, first_sight, session_of, stand, IsStopped}
 use Rattle.session.proofs.Fresh.{fresh_stand}
 use Rattle.session.proofs.Passing.{run_ok, run_err, halted_all, handed_on}
 use Rattle.session.proofs.desk.Desk.run.Goals as goal
@@ -9,7 +9,7 @@ use Rattle.session.proofs.desk.Desk.run.Goals as goal
 pub returns-in_err-last-clause-err : goal.returns-in_err-last-clause-err
 returns-in_err-last-clause-err g c =
     let m = session_of c.args.self.now.monitor.now (g.G.Gate.lets c.args.self.now.gate.now) in
-    let first = sight_of c.args.member.now in
+    let first = first_sight c.args.member.now in
     let to = stand c.answer_lines.new.member c.answer_lines.new.progress in
     let script = c.args.script.now in
     let history = account c.answer_lines.new.member in
@@ -33,7 +33,7 @@ returns-clause-ok g c =
     let fresh = fresh_stand c.args.member.now c.new-progress.result c.new-progress.ensures.number c.new-progress.ensures.follower in
     let (put, passed, out) = subst (λ (s : Stand Sight). (x : List ℕ) × Passes m s.number s.seen script x from.number from.seen rest × (mid ≡ before ++ x)) fresh
     c.in_ok-last.ensures.answers in
-    run_ok m from (stand c.answer_last.new.member c.answer_last.new.progress) (sight_of c.args.member.now) script put rest before mid
+    run_ok m from (stand c.answer_last.new.member c.answer_last.new.progress) (first_sight c.args.member.now) script put rest before mid
     (g.W.Sink.written c.answer_last.new.sink) (λ (l : Sight). l.member ≡ account c.answer_last.new.member) c.answer_last.result passed out refl
     c.answer_last.ensures.answers
 
@@ -48,6 +48,6 @@ returns-clause-err g c =
     let fresh = fresh_stand c.args.member.now c.new-progress.result c.new-progress.ensures.number c.new-progress.ensures.follower in
     let (put, passed, out) = subst (λ (s : Stand Sight). (x : List ℕ) × Passes m s.number s.seen script x from.number from.seen rest × (mid ≡ before ++ x)) fresh
     c.in_ok-last.ensures.answers in
-    run_err m from (stand c.answer_last.new.member c.answer_last.new.progress) (sight_of c.args.member.now) script put rest before mid
+    run_err m from (stand c.answer_last.new.member c.answer_last.new.progress) (first_sight c.args.member.now) script put rest before mid
     (g.W.Sink.written c.answer_last.new.sink) (λ (l : Sight). l.member ≡ account c.answer_last.new.member) c.answer_last.result passed out refl
     c.answer_last.ensures.answers

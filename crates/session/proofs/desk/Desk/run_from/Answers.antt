@@ -2,7 +2,7 @@ use Rattle.std.proofs.Common.{◌≡◌, ◌∙◌, ◌++◌, [], IfErr, refl, s
 use Rattle.std.proofs.KnownBytes.{Consumes-nil, Consumes-trans}
 use Rattle.session.specs.Answers.{Sight}
 use Rattle.session.specs.Readings.{IsPart, Passes, Stand}
-use Rattle.session.specs.Sessions.{account, sight_of, session_of, stand, IsFollowerOf, IsCutShort}
+use Rattle.session.specs.Sessions.{account, first_sight, session_of, stand, IsFollowerOf, IsCutShort}
 use Rattle.session.proofs.Coming.{no_part, passes_on, stops_reading, told_reading, stopped_reading}
 use Rattle.session.proofs.Fresh.{fresh_stand}
 use Rattle.session.proofs.Passing.{passes_none, handed_on}
@@ -11,7 +11,7 @@ use Rattle.session.proofs.desk.Desk.run_from.Goals as goal
 pub loop-init : goal.loop-init
 loop-init g c =
     let m = session_of c.args.self.now.monitor.now (g.G.Gate.lets c.args.self.now.gate.now) in
-    let first = sight_of c.args.member.now in
+    let first = first_sight c.args.member.now in
     let none : c.new-2.result.items ≡ [] = search rules in
     let fresh = fresh_stand c.args.member.now c.new.result c.new.ensures.number c.new.ensures.follower in
     let begun = subst (λ t. Passes m 1 first [] [] 1 first t) (sym none) (passes_none m 1 first []) in (
@@ -33,7 +33,7 @@ loop-init g c =
 pub loop-preserved : goal.loop-preserved
 loop-preserved g c =
     let m = session_of c.args.self.now.monitor.now (g.G.Gate.lets c.args.self.now.gate.now) in
-    let first = sight_of c.args.member.now in
+    let first = first_sight c.args.member.now in
     let between = stand c.loop.member c.loop.reading.progress in
     let to = stand c.take_more.new.member c.take_more.new.reading.progress in
     let begun = c.loop.reading.begun.items in
@@ -55,7 +55,7 @@ loop-preserved g c =
 pub returns-in_err-take_more-clause-err : goal.returns-in_err-take_more-clause-err
 returns-in_err-take_more-clause-err g c =
     let m = session_of c.args.self.now.monitor.now (g.G.Gate.lets c.args.self.now.gate.now) in
-    let first = sight_of c.args.member.now in
+    let first = first_sight c.args.member.now in
     let between = stand c.loop.member c.loop.reading.progress in
     let to = stand c.take_more.new.member c.take_more.new.reading.progress in
     let known = g.B.Read.remaining c.args.reader.now in
@@ -79,7 +79,7 @@ returns-in_err-take_more-clause-err g c =
 pub returns-then-branch-clause-ok : goal.returns-then-branch-clause-ok
 returns-then-branch-clause-ok g c =
     let m = session_of c.args.self.now.monitor.now (g.G.Gate.lets c.args.self.now.gate.now) in
-    let first = sight_of c.args.member.now in
+    let first = first_sight c.args.member.now in
     let between = stand c.loop.member c.loop.reading.progress in
     let from = stand c.take_more.new.member c.take_more.new.reading.progress in
     let to = stand c.finish.new.member c.finish.new.reading.progress in
@@ -99,7 +99,7 @@ returns-then-branch-clause-ok g c =
 pub returns-then-branch-clause-err : goal.returns-then-branch-clause-err
 returns-then-branch-clause-err g c =
     let m = session_of c.args.self.now.monitor.now (g.G.Gate.lets c.args.self.now.gate.now) in
-    let first = sight_of c.args.member.now in
+    let first = first_sight c.args.member.now in
     let between = stand c.loop.member c.loop.reading.progress in
     let from = stand c.take_more.new.member c.take_more.new.reading.progress in
     let to = stand c.finish.new.member c.finish.new.reading.progress in

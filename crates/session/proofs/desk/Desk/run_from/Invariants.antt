@@ -1,6 +1,6 @@
 use Rattle.std.proofs.Common.{◌≡◌, ℕ, List, ◌++◌, false}
 use Rattle.std.specs.Io.KnownBytes.{Consumes}
-use Rattle.session.specs.Sessions.{sight_by, sight_of, session_of, IsAtDesk}
+use Rattle.session.specs.Sessions.{sight_by, first_sight, session_of, IsAtDesk}
 use Rattle.session.specs.Readings.{IsPart, Passes}
 use Rattle.session.proofs.desk.Desk.run_from.Given as goal
 
@@ -8,7 +8,7 @@ use Rattle.session.proofs.desk.Desk.run_from.Given as goal
 abbrev pub invariant-loop : goal.invariant-loop
 invariant-loop g l =
     ((read : List ℕ) × (put : List ℕ) × Consumes (g.B.Read.remaining l.fn.reader) (g.B.Read.remaining l.reader) read
-    × Passes (session_of l.self.monitor.now (g.G.Gate.lets l.self.gate.now)) 1 (sight_of l.fn.member) read put l.reading.progress.number
+    × Passes (session_of l.self.monitor.now (g.G.Gate.lets l.self.gate.now)) 1 (first_sight l.fn.member) read put l.reading.progress.number
     (sight_by l.member l.reading.progress.follower) l.reading.begun.items
     × (g.W.Sink.written l.sink ≡ g.W.Sink.written l.fn.sink ++ put))
     × IsAtDesk l.self l.member l.reading.progress (g.W.Sink.has_failed l.sink) false × IsPart l.reading.begun.items
