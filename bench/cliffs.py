@@ -323,8 +323,18 @@ def exceptions(runs: Folder) -> Iterator[Any]:
         yield goal_row(f"{name}, 131,071 others having one", lambda: change(runs, many, count), "µs", goal)
 
 
+def more_held(runs: Folder, value: Any, without: Any) -> Any:
+    """How many million bytes a map holds at most beyond another."""
+    most, least = (greatest(runs.words(runs.map(stated), "")) for stated in (value, without))
+    return (most - least) / 1e6
+
+
 def memory(runs: Folder) -> Iterator[Any]:
     """What is held beside what it is for."""
+    many, one = (stock(16, 16, [65_536] * 16, [(of, 3, 0)] * pools) for pools, of in ((256, GROUPS), (1, 1)))
+    yield goal_row("a table of 256 pools of 4,096 groups over 4,096 OSDs", lambda: more_held(runs, many, one), "MB", 30)
+    few = flat("uniform", GROUPS, POOLS)
+    yield goal_row("131,072 exceptions of one pair each", lambda: more_held(runs, paired(POOLS), few), "MB", 6)
     yield goal_row("a change kept in the journal (one OSD down)", lambda: kept(runs), "bytes", 700)
     value = paired(POOLS, explicit=True)
     text, stated = len(json.dumps(value, separators=(",", ":"))), runs.map(value)
@@ -334,10 +344,10 @@ def memory(runs: Folder) -> Iterator[Any]:
     yield goal_row(
         "its `dump` while it is made, to the dump's text", lambda: beyond(runs, stated, "dump\n"), "times", 2.5
     )
-    few = runs.map(flat("uniform", GROUPS))
+    asked = runs.map(flat("uniform", GROUPS))
     yield goal_row(
         "answers of a session, to their text",
-        lambda: beyond(runs, few, "groups 1\n" * ASKED, "epoch\n" * ASKED),
+        lambda: beyond(runs, asked, "groups 1\n" * ASKED, "epoch\n" * ASKED),
         "times",
         1.2,
     )
