@@ -164,6 +164,11 @@ def pages_of_crates() -> list[pathlib.Path]:
     return sorted((TOP / "crates").glob("*/README.md"))
 
 
+def edits_of(crate: pathlib.Path) -> list[pathlib.Path]:
+    """The edits of a crate that must not prove."""
+    return [path for folder in ("must-fail", "wrong-bodies") for path in sorted((crate / folder).glob("*.edit"))]
+
+
 def part_of(page: pathlib.Path, heading: str) -> str:
     """What stands below a heading of a page, up to the next one."""
     return found_in(rf"^## {heading}\n\n(.*?)\n*(?=^## |\Z)", page.read_text("utf-8"), re.MULTILINE | re.DOTALL)
@@ -588,7 +593,7 @@ class Pages(Case):
         for page in pages_of_crates():
             with self.subTest(crate=page.parent.name):
                 own = "\n".join(source for path, source in texts.items() if page.parent in path.parents)
-                edits = {path.stem for path in page.parent.glob("must-fail/*.edit")}
+                edits = {path.stem for path in edits_of(page.parent)}
                 unknown = names_in(page.read_text("utf-8")) - known - edits - set(re.findall(r"\w+", own))
                 self.assertFalse(unknown)
                 proved = {name for name in names_in(part_of(page, "Proved")) if name.islower()}
@@ -598,7 +603,7 @@ class Pages(Case):
         """The page of a crate counts its edits that must not prove, or names them"""
         for page in pages_of_crates():
             with self.subTest(crate=page.parent.name):
-                edits = {path.stem for path in page.parent.glob("must-fail/*.edit")}
+                edits = {path.stem for path in edits_of(page.parent)}
                 tested = " ".join(part_of(page, "Tested").split())
                 said = re.findall(r"(\w+) edits? ([^.;]*?)(?:;[^.;]*)?must not prove", tested)
                 self.assertEqual(len(said), 1 if edits else 0)
@@ -681,10 +686,16 @@ class Pages(Case):
         self.assertFalse(wide)
 
     def test_edits(self) -> None:
-        """The table of wrong bodies in docs/PROVED.md names each edit that must not prove, at its crate"""
-        rows = re.findall(r"^\| (.*) \| edits? of `(\w+)` \|$", text("docs", "PROVED.md"), re.MULTILINE)
-        said = {(crate, name) for names, crate in rows for name in re.findall(r"`(\w+)`", names)}
-        there = {(path.parent.parent.name, path.stem) for path in (TOP / "crates").glob("*/must-fail/*.edit")}
+        """The table of wrong bodies in docs/PROVED.md names each edit that must not prove, at its crate, and which of
+        them take long"""
+        form = r"^\| (.*) \| edits? of `(\w+)`( by `--long`: .+)? \|$"
+        rows = re.findall(form, text("docs", "PROVED.md"), re.MULTILINE)
+        said = {(crate, name, long != "") for names, crate, long in rows for name in re.findall(r"`(\w+)`", names)}
+        there = {
+            (crate.name, path.stem, "long" in path.read_text("utf-8").splitlines())
+            for crate in (TOP / "crates").iterdir()
+            for path in edits_of(crate)
+        }
         self.assertGreater(len(there), 20, said ^ there)
         self.assertEqual(said, there, said ^ there)
 

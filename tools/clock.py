@@ -2,7 +2,7 @@
 """Passes on what `rt ci` prints, and tells at its end when each crate's proof, tests and edits were done, and what
 processor time each took.
 
-    rt ci 2>&1 | clock.py
+    { rt ci && wrong_bodies.py; } 2>&1 | clock.py
 
 `rt ci` prints the lines of a part when the part has ended, so what is told is the minute by the clock at which it came,
 from the beginning on: parts run side by side, and one that was kept from an earlier run comes at once. The processor
@@ -30,7 +30,7 @@ COLUMNS = (
     ("edits", re.compile(rf"rt: must-fail {NAME}/")),
 )
 
-PARTS = ("proof", "tests", "edits", "builds")
+PARTS = ("proof", "tests", "edits", "bodies", "builds")
 TICKS, PAUSE = os.sysconf("SC_CLK_TCK"), 0.5
 
 # Of each process its folder, its parent, when it began, and the seconds of its processor time.
@@ -45,8 +45,9 @@ def part_of(process: pathlib.Path) -> tuple[str, str] | None:
     if "--crate-name" not in words or not words[0].endswith("rattle"):
         return None
     crate = words[words.index("--crate-name") + 1]
-    if "rt-edit-" in os.readlink(process / "cwd"):
-        return crate, "edits"
+    folder = os.readlink(process / "cwd")
+    if "rt-edit-" in folder or "wrong-bodies-" in folder:
+        return crate, "edits" if "rt-edit-" in folder else "bodies"
     if "--test" in words:
         return crate, "tests"
     return crate, "builds" if "--crate-checked" in words else "proof"

@@ -40,6 +40,21 @@ fn make_tables<S: Alter>(conn: &mut Connection<S>, epoch: u64, text: &str) -> Re
     tx.commit()
 }
 
+/// Makes a database with no table a store with its first map.
+fn make_store<S: Alter>(conn: &mut Connection<S>, epoch: u64, text: &str) -> Result<(), StoreError>
+    requires { epoch < 2 ^ 63 }
+    ensures named { IfErr result (λ e. e ≢ EpochTooLarge) }
+{
+    if is_store(conn.schema()) {
+        return Err(StoreError::Begun);
+    }
+    if !is_blank(conn.schema()) {
+        return Err(StoreError::Foreign);
+    }
+    make_tables(conn, epoch, text)?;
+    Ok(())
+}
+
 /// Makes the tables of a store and the row of its first map where there is no table, and copies the log into the file.
 fn make_file<W: Start>(
     rt: &HostRuntime,
@@ -53,13 +68,7 @@ fn make_file<W: Start>(
 {
     check_free(rt, path)?;
     let mut conn = connect(rt, path, start)?;
-    if is_store(conn.schema()) {
-        return Err(StoreError::Begun);
-    }
-    if !is_blank(conn.schema()) {
-        return Err(StoreError::Foreign);
-    }
-    make_tables(&mut conn, epoch, text)?;
+    make_store(&mut conn, epoch, text)?;
     conn.close()?;
     Ok(())
 }

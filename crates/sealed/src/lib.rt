@@ -2,14 +2,11 @@
 //!
 //! - `row`: a row of cells that are sealed once each
 //! - `pass`, `known`: what a reader has seen of a row, and what is known of one cell
-//! - `tests`: a row and its passes by examples
 #![tactic(auto)]
 
 mod known;
 mod pass;
 mod row;
-#[cfg(test)]
-mod tests;
 
 pub use known::Known;
 pub use pass::Pass;
