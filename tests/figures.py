@@ -244,7 +244,6 @@ TIES = [
         for words in (
             "{} to {} bytes a group",
             "some {} to {} % of the processor time of a plan",
-            "costs the proof of all that drops a connection, some {} processor minutes",
             "some {} processor minutes longer",
         )
     ),

@@ -16,7 +16,8 @@
 mod changes;
 #[cfg(test)]
 mod errors;
-pub mod examples;
+#[cfg(test)]
+mod examples;
 #[cfg(test)]
 mod journals;
 #[cfg(test)]

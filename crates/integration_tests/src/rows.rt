@@ -45,6 +45,24 @@ fn read(row: &Row, pass: &mut Pass) -> u64
     row.read_next(pass).map_or(0, |found| found.epoch())
 }
 
+// What two passes answer of which each reads what the other has sealed.
+fn in_turn(row: &Row, p: &mut Pass, q: &mut Pass, alloc: Global) -> [u64; 8]
+    requires passes { (p.old.row ≡ row.now) × (q.old.row ≡ row.now) }
+    requires first { row.now.first ≡ 1 }
+    ensures { (p.new.row ≡ row.now) × (q.new.row ≡ row.now) }
+{
+    [
+        seal(row, p, alloc),
+        seal(row, q, alloc),
+        read(row, q),
+        read(row, q),
+        seal(row, q, alloc),
+        seal(row, q, alloc),
+        read(row, p),
+        read(row, p),
+    ]
+}
+
 #[test]
 fn two_read_what_each_other_sealed(rt: HostRuntime) -> Result<(), Fail> {
     let alloc = rt.alloc();
@@ -53,16 +71,7 @@ fn two_read_what_each_other_sealed(rt: HostRuntime) -> Result<(), Fail> {
     let mut q = row.pass(alloc)?;
     shown(&row);
     shown(&p);
-    let found = [
-        seal(&row, &mut p, alloc),
-        seal(&row, &mut q, alloc),
-        read(&row, &mut q),
-        read(&row, &mut q),
-        seal(&row, &mut q, alloc),
-        seal(&row, &mut q, alloc),
-        read(&row, &mut p),
-        read(&row, &mut p),
-    ];
+    let found = in_turn(&row, &mut p, &mut q, alloc);
     assert_eq!(rt; found, [2, 32, 2, 0, 3, 0, 3, 0]);
     p.meet(&mut q);
     q.join(&p);

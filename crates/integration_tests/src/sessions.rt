@@ -7,7 +7,7 @@ use crate::examples::{DOWN, FOUR_DEVICES, commit_now, open_for_two};
 use crossbeam_utils::Backoff;
 use monitor::{Look, Member, Monitor};
 use session::{Buffer, Desk, Gate, Open, SessionError, Sink, WriteFailed};
-use std::alloc::{AllocError, Global};
+use std::alloc::Global;
 use std::sync::Wait;
 use std::sync::atomic::{AtomicU64, Ordering};
 use std::test::Fail;
@@ -277,20 +277,26 @@ fn no_hold_lasts_over_a_gate(rt: HostRuntime) -> Result<(), Fail> {
     Ok(())
 }
 
-/// A beginning, and so many questions for the epoch.
-fn questions(alloc: Global, first: &str, count: usize) -> Result<String, AllocError> {
-    let mut script = String::new(alloc);
-    script.push_str(first)?;
-    for _ in 0..count {
-        script.push_str("epoch\n")?;
-    }
-    Ok(script)
-}
+/// Forty questions for the epoch.
+const FORTY: &str = concat!(
+    "epoch\nepoch\nepoch\nepoch\nepoch\nepoch\nepoch\nepoch\nepoch\nepoch\n",
+    "epoch\nepoch\nepoch\nepoch\nepoch\nepoch\nepoch\nepoch\nepoch\nepoch\n",
+    "epoch\nepoch\nepoch\nepoch\nepoch\nepoch\nepoch\nepoch\nepoch\nepoch\n",
+    "epoch\nepoch\nepoch\nepoch\nepoch\nepoch\nepoch\nepoch\nepoch\nepoch\n",
+);
 
-/// What a change, where there is one, and 40 questions answer by a seat that may draw so often.
-fn answers_by_draws<R: Wait>(rt: &R, alloc: Global, draws: u64, change: &str) -> Option<Buffer> {
+/// A change, and forty questions.
+const FORTY_BEHIND: &str = concat!(
+    "change {\"base\":1}\n",
+    "epoch\nepoch\nepoch\nepoch\nepoch\nepoch\nepoch\nepoch\nepoch\nepoch\n",
+    "epoch\nepoch\nepoch\nepoch\nepoch\nepoch\nepoch\nepoch\nepoch\nepoch\n",
+    "epoch\nepoch\nepoch\nepoch\nepoch\nepoch\nepoch\nepoch\nepoch\nepoch\n",
+    "epoch\nepoch\nepoch\nepoch\nepoch\nepoch\nepoch\nepoch\nepoch\nepoch\n",
+);
+
+/// What a script answers by a seat that may draw so often.
+fn answers_by_draws<R: Wait>(rt: &R, alloc: Global, draws: u64, script: &str) -> Option<Buffer> {
     let (monitor, mut member, _) = open_for_two(alloc, FOUR_DEVICES, draws)?;
-    let script = questions(alloc, change, 40).ok()?;
     let mut answers = Buffer::new(alloc);
     let desk = Desk {
         alloc,
@@ -298,8 +304,10 @@ fn answers_by_draws<R: Wait>(rt: &R, alloc: Global, draws: u64, change: &str) ->
         monitor: &monitor,
         gate: &Open,
     };
-    desk.run(&mut member, script.as_bytes(), &mut answers).ok()?;
-    Some(answers)
+    match desk.run(&mut member, script.as_bytes(), &mut answers) {
+        Ok(()) => Some(answers),
+        Err(_) => None,
+    }
 }
 
 /// The seat is spent at the line at which it is by a draw a line.
@@ -314,7 +322,7 @@ fn a_seat_is_spent_at_its_line(rt: HostRuntime) -> Result<(), Fail> {
                 "err 31 SeatSpent\n"
             })?;
         }
-        match answers_by_draws(&rt, rt.alloc(), draws as u64, "") {
+        match answers_by_draws(&rt, rt.alloc(), draws as u64, FORTY) {
             Some(answers) => assert_eq!(rt; answers.bytes(), wanted.as_bytes(), "{draws}"),
             None => assert!(rt; false, "{draws}"),
         }
@@ -335,7 +343,7 @@ fn a_seat_is_spent_at_its_line_after_a_change(rt: HostRuntime) -> Result<(), Fai
                 "err 31 SeatSpent\n"
             })?;
         }
-        match answers_by_draws(&rt, rt.alloc(), draws as u64, "change {\"base\":1}\n") {
+        match answers_by_draws(&rt, rt.alloc(), draws as u64, FORTY_BEHIND) {
             Some(answers) => assert_eq!(rt; answers.bytes(), wanted.as_bytes(), "{draws}"),
             None => assert!(rt; false, "{draws}"),
         }
@@ -350,7 +358,6 @@ fn ask_cut_off<R: Wait>(
     calls: usize,
 ) -> Option<(Result<(), SessionError>, Slow, bool)> {
     let (monitor, mut member, mut other) = open_for_two(alloc, FOUR_DEVICES, MAX_DRAWS)?;
-    let script = questions(alloc, "", 40).ok()?;
     let mut slow = slow_sink(alloc, calls, false);
     let desk = Desk {
         alloc,
@@ -358,7 +365,7 @@ fn ask_cut_off<R: Wait>(
         monitor: &monitor,
         gate: &Open,
     };
-    let ended = desk.run(&mut member, script.as_bytes(), &mut slow);
+    let ended = desk.run(&mut member, FORTY.as_bytes(), &mut slow);
     let commits = commit_now(rt, alloc, &monitor, &mut other, DOWN).is_ok();
     Some((ended, slow, commits))
 }
@@ -403,9 +410,10 @@ fn draws_for_three<R: Wait>(rt: &R, alloc: Global, waits: bool) -> Option<u64> {
         monitor: &monitor,
         gate: &Open,
     };
-    let script = b"epoch\nepoch\nepoch\n";
-    desk.run(&mut member, script, &mut slow).ok()?;
-    Some(MAX_DRAWS.saturating_sub(monitor.draws_left(&member)))
+    match desk.run(&mut member, b"epoch\nepoch\nepoch\n", &mut slow) {
+        Ok(()) => Some(MAX_DRAWS.saturating_sub(monitor.draws_left(&member))),
+        Err(_) => None,
+    }
 }
 
 /// One hold for all three would last over two writes.
