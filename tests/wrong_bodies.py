@@ -68,12 +68,14 @@ class WrongBodies(Case):
         self.put("is_called", "low", "fn low right", "fn low wrong")
         self.assertEqual(self.tried()[0], 0)
         self.put("calls", "high", "fn high low", "fn high low low")
-        self.assertEqual(self.tried(), (1, self.told("calls: the prover does not refuse `high`", "calls, is_called")))
+        self.assertEqual(
+            self.tried(), (1, self.told("calls: the prover does not refuse `high`: proved", "calls, is_called"))
+        )
 
     def test_proved(self) -> None:
         """A body that the prover does not refuse, and one that makes another function fail."""
         self.put("right", "low", "fn low right", "fn low right as well")
-        self.assertEqual(self.tried(), (1, self.told("right: the prover does not refuse `low`", "right")))
+        self.assertEqual(self.tried(), (1, self.told("right: the prover does not refuse `low`: proved", "right")))
         self.put("right", "low", "fn alone right", "fn alone wrong")
         status, told = self.tried()
         self.assertEqual(status, 1)
@@ -93,6 +95,12 @@ class WrongBodies(Case):
         self.put("slow", "low", "fn low right", "fn low wrong", "long\n")
         self.assertEqual(self.tried(), (0, ["wrong bodies: 0, faults: 0"]))
         self.assertEqual(self.tried("--long")[1][-1], "wrong bodies: 1, faults: 0")
+        self.assertEqual(self.tried("--long", "small")[1][-1], "wrong bodies: 1, faults: 0")
+
+    def test_unknown_crate(self) -> None:
+        """A crate that is not there."""
+        status, told = self.tried("small", "great")
+        self.assertEqual((status, told[-1]), (2, "wrong_bodies.py: error: crates.txt has no great"))
 
     def told(self, fault: str, names: str) -> list[str]:
         """The lines of the tool that tell one fault of wrong bodies of these names."""

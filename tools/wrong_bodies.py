@@ -4,11 +4,11 @@ status 1 where it proves one of them.
 
     wrong_bodies.py [--long] [CRATE..]
 
-A file `wrong-bodies/NAME.edit` of a crate has a line `only: FUNCTION`, the function as a check names it below its crate,
-and behind it the lines of an edit of `must-fail/`: `file:`, `old:`, `new:`. An edit of `must-fail/` costs the proof of
-its whole crate, one of these that of the function and of those of the crate that it calls. Where that takes minutes
-too, a line `long` stands in the file, and `--long` tries it. The libraries below a crate are those that `rt ci` has
-left in `out/`, so that comes first.
+A file `wrong-bodies/NAME.edit` of a crate has a line `only: FUNCTION`, the function as a check names it below its
+crate, and behind it the lines of an edit of `must-fail/`: `file:`, `old:`, `new:`. An edit of `must-fail/` costs the
+proof of its whole crate, one of these that of the function and of those of the crate that it calls. Where that takes
+minutes too, a line `long` stands in the file, and `--long` tries it. The libraries below a crate are those that `rt ci`
+has left in `out/`, so that comes first.
 """
 
 from __future__ import annotations
@@ -27,9 +27,9 @@ import tempfile
 
 TOP = pathlib.Path(__file__).resolve().parent.parent
 PARTS = ("src", "specs", "proofs")
-# How what the prover says of a function begins: one that it proves, and one that it does not judge, as it has not proved
-# a function which that one calls.
-PROVED, ABOVE = "proved", "no proof: it calls "
+# How what the prover says of a function begins: of one that it proves, of one that it refuses, and of one that it does
+# not judge, as it has not proved a function which that one calls.
+PROVED, REFUSED, ABOVE = "proved", ("not proved", "no proof: "), "no proof: it calls "
 
 
 @dataclasses.dataclass(frozen=True)
@@ -152,12 +152,19 @@ class Crate:
                 yield f"{', '.join(body.name for body in planted)}: the prover gives no verdict:\n{told[-1500:]}"
                 return
             for body in judged:
-                if verdicts.pop(body.function, PROVED).startswith(PROVED):
-                    yield f"{body.name}: the prover does not refuse `{body.function}`"
+                verdict = verdicts.pop(body.function, "no word of it")
+                if not verdict.startswith(REFUSED):
+                    yield f"{body.name}: the prover does not refuse `{body.function}`: {verdict}"
             for function, verdict in verdicts.items():
                 if not verdict.startswith((PROVED, ABOVE)):
                     yield f"`{function}`, whose body is as it was: {verdict}"
             left = [body for body in left if body not in judged]
+
+
+def bodies_of(crate: str, takes_long: bool) -> list[Body]:
+    """The wrong bodies of a crate that are tried."""
+    bodies = [body_of(path) for path in sorted((TOP / "crates" / crate / "wrong-bodies").glob("*.edit"))]
+    return [body for body in bodies if takes_long or not body.is_long]
 
 
 def main() -> int:
@@ -166,24 +173,24 @@ def main() -> int:
     parser.add_argument("crates", nargs="*", metavar="CRATE")
     parser.add_argument("--long", action="store_true", help="also those that take minutes")
     options = parser.parse_args()
-    named, begun = libraries(), []
+    named, failed = libraries(), 0
+    if unknown := sorted({*options.crates} - {*named}):
+        parser.error(f"crates.txt has no {', '.join(unknown)}")
+    found = {name: bodies_of(name, options.long) for name in options.crates or named}
     with ThreadPoolExecutor(int(os.environ.get("RT_JOBS", os.cpu_count() or 1))) as pool:
-        for name in options.crates or named:
-            all_of = [body_of(path) for path in sorted((TOP / "crates" / name / "wrong-bodies").glob("*.edit"))]
-            bodies = [body for body in all_of if options.long or not body.is_long]
-            if bodies:
-                begun.append(
-                    (name, bodies, pool.submit(lambda *own: [*Crate(own[0], named).faults(own[1])], name, bodies))
-                )
-        failed = 0
-        for name, bodies, future in begun:
+        tried = {
+            name: pool.submit(lambda crate: [*crate.faults(found[crate.name])], Crate(name, named))
+            for name, bodies in found.items()
+            if bodies
+        }
+        for name, future in tried.items():
             faults = future.result()
             failed += len(faults)
             for fault in faults:
                 print(f"{name}: {fault}")
-            told = ", ".join(body.name for body in bodies)
+            told = ", ".join(body.name for body in found[name])
             print(f"{name}: {'NOT AS IT MUST BE' if faults else 'refused'}: {told}", flush=True)
-    print(f"wrong bodies: {sum(len(bodies) for _, bodies, _ in begun)}, faults: {failed}")
+    print(f"wrong bodies: {sum(map(len, found.values()))}, faults: {failed}")
     return 1 if failed else 0
 
 

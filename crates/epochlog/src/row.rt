@@ -52,6 +52,18 @@ impl Row {
         if !(1..=MAX_FIRST_EPOCH).contains(&first) || !(1..=MAX_CAPACITY).contains(&capacity) {
             return Err(Refusal::BadLimit);
         }
+        Ok(Row::of_fitting(alloc, first, capacity)?)
+    }
+
+    /// The row that `new` makes, of a first epoch and a capacity that are known to be within their limits.
+    ///
+    /// # Errors
+    ///
+    /// `Memory` (30) where there is no memory for it.
+    pub fn of_fitting(alloc: Global, first: u64, capacity: u32) -> Result<Row, Memory>
+        requires { IsRowSize first capacity }
+        ensures { IfOk result (λ row. (row.first ≡ first) × (length row.cells ≡ capacity)) }
+    {
         let cells = sealed::Row::new(alloc, capacity as usize)?;
         Ok(Row { first, cells })
     }

@@ -1,7 +1,6 @@
 //! How a monitor is opened.
 
 ghost use Rattle.std.specs.Prelude.{◌≡◌, true, length, All, IfOk};
-ghost use Rattle.epochlog.specs.Epochs.{is_within_limits};
 ghost use Rattle.ticketlock.specs.Callers.{IsNewOf, first_of, limit_of};
 ghost use Rattle.ticketlock.specs.Errors.{IsWithin};
 ghost use Rattle.monitor.specs.Opening.{can_open, can_open_with};
@@ -39,18 +38,6 @@ fn can_open(epoch: u64, limits: Limits) -> bool
         && (1..=MAX_CAPACITY).contains(&limits.journal)
         && (1..=MAX_SEATS).contains(&limits.seats)
         && (1..=MAX_DRAWS).contains(&limits.draws)
-}
-
-/// A row of epochs after this one, where both numbers are within their limits; or `Memory` (30).
-fn row_after(alloc: Global, epoch: u64, journal: u32) -> Result<Row, Memory>
-    requires { is_within_limits epoch journal ≡ true }
-    ensures { IfOk result (λ row. (row.first ≡ epoch) × (length row.cells ≡ journal)) }
-{
-    match Row::new(alloc, epoch, journal) {
-        Ok(row) => Ok(row),
-        Err(Refusal::Memory) => Err(Memory),
-        Err(_) => unreachable!(),
-    }
 }
 
 /// A state under a lock, and the seats, where both numbers are within their limits; or `Memory` (30).
@@ -120,7 +107,7 @@ impl<K: Keeps + Drop> Monitor<K> {
         requires held { K.holds store (journal map.map []) }
         ensures { IfOk result (λ r. IsOpeningWith map.map limits r.0 r.1.items) }
     {
-        let row = row_after(alloc, map.epoch(), limits.journal)?;
+        let row = Row::of_fitting(alloc, map.epoch(), limits.journal)?;
         let work = Work::new(alloc, map.forest())?;
         let state = State::new(alloc, map, &row, work, store)?;
         let first = state.share_first()?;
