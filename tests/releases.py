@@ -10,7 +10,7 @@ import unittest
 from tests.cases import TOP, Case
 
 SECONDS = 120
-LOG = "rt: 1 part\n120 passed, 0 failed\n"
+LOG = "rt: 1 part\n120 passed, 0 failed\nwrong bodies: 17, faults: 0\n"
 # Makes the archive of this tree as it is, whether it is committed or not.
 PACK = """
 import pathlib, sys
@@ -67,7 +67,8 @@ class Releases(Case):
         """No release of a log that tells no gate, or one with failures"""
         with tempfile.TemporaryDirectory() as name:
             folder = pathlib.Path(name)
-            for log in ("", "119 passed, 1 failed\n", "rt: proved\n"):
+            passed, failed = "120 passed, 0 failed\n", "119 passed, 1 failed\nwrong bodies: 17, faults: 0\n"
+            for log in ("", failed, "rt: proved\n", passed, f"{passed}wrong bodies: 17, faults: 1\n"):
                 (folder / "gate.log").write_text(log)
                 done = ran(sys.executable, TOP / "tools" / "dist.py", folder / "gate.log", folder, self.program)
                 self.assertEqual(done.returncode, 1)

@@ -35,7 +35,11 @@ PARTS = [
     "tools",
     "tests/README.md",
 ]
-PASSED = re.compile(r"^\D*(\d+) passed, 0 failed", re.MULTILINE)
+# What a gate tells that has passed: of the kit, and of the wrong bodies.
+PASSED = (
+    re.compile(r"^\D*\d+ passed, 0 failed", re.MULTILINE),
+    re.compile(r"^wrong bodies: \d+, faults: 0$", re.MULTILINE),
+)
 
 
 def git(*words: str) -> str:
@@ -46,7 +50,8 @@ def git(*words: str) -> str:
 
 def fault_of(log: pathlib.Path, programs: list[pathlib.Path]) -> str:
     """Why there is no release of this tree with this log and these programs; nothing where there is one."""
-    if not log.is_file() or not PASSED.search(log.read_text(encoding="utf-8", errors="replace")):
+    told = log.read_text(encoding="utf-8", errors="replace") if log.is_file() else ""
+    if not all(line.search(told) for line in PASSED):
         return f"{log} is no log of a gate without failures: make gate 2>&1 | tee {log}"
     if git("status", "--porcelain"):
         return "the tree has changes that are not committed"
@@ -55,9 +60,11 @@ def fault_of(log: pathlib.Path, programs: list[pathlib.Path]) -> str:
     for program in programs:
         if not os.access(program, os.X_OK) or program.is_dir():
             return f"{program} is no program: make run and make store prove and build both"
-        told = subprocess.run([program, "--version"], stdout=subprocess.PIPE, text=True, check=False, timeout=60).stdout
-        if told != f"{program.name} {backend.version()}\n":
-            return f"{program} tells {told.strip()}, and the tools {backend.version()}"
+        version = subprocess.run(
+            [program, "--version"], stdout=subprocess.PIPE, text=True, check=False, timeout=60
+        ).stdout
+        if version != f"{program.name} {backend.version()}\n":
+            return f"{program} tells {version.strip()}, and the tools {backend.version()}"
     return ""
 
 
