@@ -53,7 +53,7 @@ def proved(crate: str) -> Rows:
             last = line
             if name := re.match(r"checked \w+::(\S+), \d+ of \d+", line):
                 now = spent(prover.pid)
-                found.append((crate, f"`{name[1]}`" if found else f"the libraries, and `{name[1]}`", now - before))
+                found.append((crate, name[1] if found else f"the libraries, and {name[1]}", now - before))
                 before = now
     if not last.startswith("logic=proved"):
         sys.exit(f"{crate}: {last.strip() or 'the prover says nothing'}")
