@@ -20,6 +20,7 @@ import running
 TOP = pathlib.Path(__file__).resolve().parent.parent
 sys.path.append(str(TOP / "tools"))
 
+import libraries  # noqa: E402
 import wrong_bodies  # noqa: E402
 
 TICKS = os.sysconf("SC_CLK_TCK")
@@ -42,7 +43,7 @@ def has_tests(crate: str) -> bool:
 
 def proved(crate: str) -> Rows:
     """Each function of a crate, in the order in which they are proved, with its processor seconds; and all of them."""
-    words = [*wrong_bodies.words_of(crate, wrong_bodies.libraries()), "--progress", *["--test"] * has_tests(crate)]
+    words = [*wrong_bodies.words_of(crate, dict(libraries.named(TOP))), "--progress", *["--test"] * has_tests(crate)]
     found: Rows = []
     with subprocess.Popen(
         words, cwd=TOP / "crates" / crate, stdout=subprocess.PIPE, stderr=subprocess.STDOUT, text=True, errors="replace"

@@ -37,7 +37,8 @@ class WrongBodies(Case):
         self.top = pathlib.Path(folder.name)
         for name in ("tools", "kit/bin", "crates/small/src", "crates/small/wrong-bodies"):
             (self.top / name).mkdir(parents=True)
-        shutil.copy(TOP / "tools" / "wrong_bodies.py", self.top / "tools")
+        for name in ("wrong_bodies.py", "libraries.py"):
+            shutil.copy(TOP / "tools" / name, self.top / "tools")
         (self.top / "crates.txt").write_text("small:\n")
         (self.top / "crates" / "small" / "src" / "lib.rt").write_text(SOURCE)
         for name, script in (("rt", ""), ("rattle", PROVER)):

@@ -46,8 +46,9 @@ def part_of(process: pathlib.Path) -> tuple[str, str] | None:
         return None
     crate = words[words.index("--crate-name") + 1]
     folder = os.readlink(process / "cwd")
-    if "rt-edit-" in folder or "wrong-bodies-" in folder:
-        return crate, "edits" if "rt-edit-" in folder else "bodies"
+    for name, part in (("rt-edit-", "edits"), ("wrong-bodies-", "bodies")):
+        if name in folder:
+            return crate, part
     if "--test" in words:
         return crate, "tests"
     return crate, "builds" if "--crate-checked" in words else "proof"

@@ -7,7 +7,7 @@ status 1 where it proves one of them.
 A file `wrong-bodies/NAME.edit` of a crate has a line `only: FUNCTION`, the function as a check names it below its
 crate, and behind it the lines of an edit of `must-fail/`: `file:`, `old:`, `new:`. An edit of `must-fail/` costs the
 proof of its whole crate, one of these that of the function and of those of the crate that it calls. Where that takes
-minutes too, a line `long` stands in the file, and `--long` tries it. The libraries below a crate are those that `rt ci`
+long too, a line `long` stands in the file, and `--long` tries it. The libraries below a crate are those that `rt ci`
 has left in `out/`, so that comes first.
 """
 
@@ -24,6 +24,8 @@ import shutil
 import subprocess
 import sys
 import tempfile
+
+import libraries
 
 TOP = pathlib.Path(__file__).resolve().parent.parent
 PARTS = ("src", "specs", "proofs")
@@ -74,12 +76,6 @@ def body_of(path: pathlib.Path) -> Body:
     if not function or not changes:
         sys.exit(f"{path} has no line `only:`, or changes nothing")
     return Body(path.stem, function, tuple(changes), is_long)
-
-
-def libraries() -> dict[str, list[str]]:
-    """The libraries that crates.txt names for each crate, in its order."""
-    heads = [line.split("#")[0].partition(":") for line in (TOP / "crates.txt").read_text("utf-8").splitlines()]
-    return {head.split()[0]: tail.split() for head, colon, tail in heads if colon}
 
 
 def below(crate: str, named: dict[str, list[str]]) -> set[str]:
@@ -171,9 +167,9 @@ def main() -> int:
     """Tries the wrong bodies of the crates that are named, or of all; the status."""
     parser = argparse.ArgumentParser(description=(__doc__ or "").split("\n\n")[0])
     parser.add_argument("crates", nargs="*", metavar="CRATE")
-    parser.add_argument("--long", action="store_true", help="also those that take minutes")
+    parser.add_argument("--long", action="store_true", help="also those that take long")
     options = parser.parse_args()
-    named, failed = libraries(), 0
+    named, failed = dict(libraries.named(TOP)), 0
     if unknown := sorted({*options.crates} - {*named}):
         parser.error(f"crates.txt has no {', '.join(unknown)}")
     found = {name: bodies_of(name, options.long) for name in options.crates or named}

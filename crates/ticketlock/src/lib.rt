@@ -10,6 +10,7 @@
 //! - `table`, `words`: the lock's words and the rule over them, and the steps on the words
 //! - `slots`: the value, in one of two slots
 //! - `view`, `laws`: what a seat knows of the lock, and the laws of the lock's steps
+//! - `tests`, `tests/steps`, `tests/threads`: that the calls get through, in one thread and in several
 #![tactic(auto)]
 
 pub mod error;
@@ -22,6 +23,8 @@ pub mod read_guard;
 mod reading;
 mod slots;
 mod table;
+#[cfg(test)]
+mod tests;
 pub mod tokens;
 pub mod turn;
 pub mod view;
