@@ -16,16 +16,18 @@ RESULTS = $(CURDIR)/bench/results
 LOG = gate.log
 BENCHES = placements tables steps sessions live store balancer reading cliffs tools wide whole_cluster
 
-.PHONY: help try prove run store test gate runs bench dist
+.PHONY: help form try checked prove run store test gate runs bench dist
 
 help:
+	@echo 'make form   the tests of form: sources, pages, figures and types, without a program (half a minute to a minute)'
 	@echo 'make try    the example answered before any proof, by a program built with checks in place of proofs, which is not kept'
 	@echo '            MAP=my.json SCRIPT=my.txt runs your map and script once; SCRIPT=/dev/stdin reads what you type up to Ctrl-D'
+	@echo 'make checked  the same program, kept: crates/osdmapd/out/osdmapd.checked, for work on the tools before anything is proved'
 	@echo 'make run    the program proved and built, then the example answered by it (slow the first time: every proof below it)'
 	@echo '            MAP= and SCRIPT= as above; CPU=x86-64-v3 (or another of LLVM) builds it for that processor'
 	@echo 'make store  the program whose map a file keeps, proved and built: crates/osdmapstore/out/osdmapstore'
-	@echo 'make test   the gate: every proof (from nothing the first time, later only what changed), the edits that must not prove,'
-	@echo '            the tests, then runs of the built program'
+	@echo 'make test   the gate: the tests of form, every proof (from nothing the first time, later only what changed), the edits that'
+	@echo '            must not prove, the tests, then runs of the built program'
 	@echo 'make gate   the gate without the runs'
 	@echo 'make runs   the runs of the built program alone (four to seven minutes)'
 	@echo 'make bench  what the built program costs, as tables: placements beside plain C (cc, and valgrind for instructions), table, sessions, balancer, reading, tools for operators, plans for whole clusters (of REKHUSO_CLUSTERS)'
@@ -33,11 +35,19 @@ help:
 	@echo 'make dist   one archive in dist/ of the programs that are built, the tools and their wheel, the pages, and the log of their gate:'
 	@echo '            LOG=gate.log names it (make gate 2>&1 | tee gate.log)'
 
+# What the gate begins with.
+form:
+	@python3 tests/run.py --form
+
 # Runs with checks in place of proofs. The map and the script are read here, so that they may be anywhere and be read once.
 try:
 	@echo 'Nothing is proved by this: the program is built with checks, run once, and not kept.' >&2
 	@folder=$$(mktemp -d) && trap 'rm -r "$$folder"' EXIT && cat '$(MAP)' > "$$folder/map.json" && cat '$(SCRIPT)' > "$$folder/script.txt" && \
 		cd crates/osdmapd && rt try --data map.json="$$folder/map.json" --data script.txt="$$folder/script.txt" -- map.json script.txt
+
+# Keeps the program that is built with checks in place of proofs.
+checked:
+	@python3 tools/checked.py
 
 # The proofs go by on the screen, function by function; where one fails, nothing is run.
 prove:

@@ -8,6 +8,8 @@ the plan and its commit. The greatest deviation is how many groups an OSD has mo
 told by `count` lines before and after. It is no part of the gate.
 """
 
+from __future__ import annotations
+
 from collections.abc import Iterator
 from typing import Any
 

@@ -9,6 +9,8 @@ script, in turn so that what else is at work on the machine is at work beside bo
 this table too. It is no part of the gate.
 """
 
+from __future__ import annotations
+
 import os
 import sys
 from collections.abc import Iterator

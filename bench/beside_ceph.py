@@ -12,6 +12,8 @@ by Ceph's sets. *Taken back* are the commands by which `osdmaptool --upmap-clean
 the groups that Ceph places otherwise after ours than the program does. It is no part of the gate.
 """
 
+from __future__ import annotations
+
 import gzip
 import json
 import os

@@ -10,6 +10,8 @@ their place, in the bytes of the map (Ceph, OSDMap.cc `OSDMap::encode`): two len
 checksum behind are then made anew.
 """
 
+from __future__ import annotations
+
 import json
 import os
 import re

@@ -8,6 +8,8 @@ Times are those of a run less a run without what is measured, the best of some; 
 so. Memory is the greatest resident size, less that of the run beside it. It is no part of the gate.
 """
 
+from __future__ import annotations
+
 import json
 import os
 import subprocess

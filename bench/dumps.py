@@ -1,5 +1,7 @@
 """A map as the two dumps that Ceph's tools would print of it, with the keys that make them long."""
 
+from __future__ import annotations
+
 from typing import Any
 
 import ceph

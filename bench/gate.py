@@ -6,6 +6,8 @@
 `make gate` ends with these minutes (tools/clock.py). With RESULTS the table is kept in bench/results/gate.md.
 """
 
+from __future__ import annotations
+
 import pathlib
 import re
 import sys

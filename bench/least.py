@@ -5,6 +5,8 @@ likes, but no failure domain takes more than one place of each group. By the sec
 and the OSDs have nothing else. Pools that have no plan stay where they are, in both.
 """
 
+from __future__ import annotations
+
 from collections import deque
 from collections.abc import Callable, Iterable, Mapping
 from functools import partial

@@ -8,6 +8,8 @@ The time of a question is the median of many, asked one by one; Python's own par
 the gate.
 """
 
+from __future__ import annotations
+
 import os
 import select
 import statistics

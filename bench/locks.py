@@ -9,6 +9,8 @@ Makes in FOLDER (a temporary one if none is given) a small repository of `ticket
 the best of three runs. It is no part of the gate.
 """
 
+from __future__ import annotations
+
 import os
 import shutil
 import subprocess

@@ -1,6 +1,8 @@
 #!/usr/bin/env python3
 """Prints on what machine and when the tables that follow were measured."""
 
+from __future__ import annotations
+
 import datetime
 import os
 import re

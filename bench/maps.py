@@ -1,5 +1,7 @@
 """The maps that the benches run over."""
 
+from __future__ import annotations
+
 from typing import Any
 
 # The kinds that every map may have, and all: straw2 the program takes where it is told to.
@@ -42,6 +44,17 @@ def few_hosts(kind: str, groups: Any, pools: Any = 1) -> Any:
         {"id": -2 - h, "items": [[8 * h + i, 65536] for i in range(8)], "kind": kind, "type": 1} for h in range(8)
     ]
     return a_map(buckets, 64, [["chooseleaf_firstn", 0, 1]], pools, groups)
+
+
+def hosts(count: int, each: int, groups: Any) -> Any:
+    """So many devices in straw2 hosts of a number of devices each, and a pool."""
+    below = range(count // each)
+    buckets: list[Any] = [{"id": -1, "items": [[-2 - h, each * 65536] for h in below], "kind": "straw2", "type": 10}]
+    buckets += [
+        {"id": -2 - h, "items": [[each * h + i, 65536] for i in range(each)], "kind": "straw2", "type": 1}
+        for h in below
+    ]
+    return a_map(buckets, count, [["chooseleaf_firstn", 0, 1]], 1, groups)
 
 
 def levels(kind: str, groups: Any, pools: Any = 1, racks: Any = 30, hosts: Any = 480) -> Any:

@@ -6,6 +6,8 @@ heading, up to the next line that begins no table. What else the page says stays
 there yet is made.
 """
 
+from __future__ import annotations
+
 import os
 import pathlib
 import re

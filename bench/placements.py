@@ -14,6 +14,8 @@ program; the rest is the table's own part. Where there is no valgrind, microseco
 instructions, and that function is not told apart. It is no part of the gate.
 """
 
+from __future__ import annotations
+
 import os
 import re
 import subprocess

@@ -12,6 +12,8 @@ fullest OSD stays whatever a plan does (`least.py`), both where it is above 1.1.
 the program. The second table counts the runs. It is no part of the gate.
 """
 
+from __future__ import annotations
+
 import json
 import os
 import resource

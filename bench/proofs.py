@@ -8,6 +8,8 @@ Of a crate that has tests its tests are proved too. A function's processor secon
 the first to cite; the first function's also those of reading the libraries.
 """
 
+from __future__ import annotations
+
 from concurrent.futures import ThreadPoolExecutor
 import os
 import pathlib

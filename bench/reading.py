@@ -8,6 +8,8 @@ that the program had in memory are the text, what was read of it, and the two or
 It is no part of the gate.
 """
 
+from __future__ import annotations
+
 import json
 from collections.abc import Iterator
 from typing import Any

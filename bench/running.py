@@ -5,6 +5,8 @@ Every run has a limit of time. What cannot be measured is a row too, which says 
 cc`. A goal stands beside what it is for, with `met` or `missed`.
 """
 
+from __future__ import annotations
+
 import datetime
 import json
 import os
@@ -174,6 +176,8 @@ def instructions(words: Any, inside: Any = None) -> Any:
     call."""
     if not HAS_VALGRIND:
         raise Absent("no valgrind")
+    # A filling that repeats one instruction is counted byte by byte; without it as many instructions as are run.
+    honest = {**os.environ, "GLIBC_TUNABLES": "glibc.cpu.x86_rep_stosb_threshold=10000000"}
     inside = [f"--toggle-collect={inside}"] if inside else []
     done = subprocess.run(
         ["valgrind", "--tool=callgrind", "--callgrind-out-file=/dev/null"] + inside + words,
@@ -182,6 +186,7 @@ def instructions(words: Any, inside: Any = None) -> Any:
         text=True,
         check=True,
         timeout=COUNTED_LIMIT,
+        env=honest,
     )
     return int(re.findall(r"Collected : (\d+)", done.stderr)[0])
 

@@ -16,6 +16,8 @@ sessions of 1,000 lines over 32 pools, and then all their answers again by one s
 stay in FOLDER if one is given. It is no part of the gate.
 """
 
+from __future__ import annotations
+
 import os
 import pathlib
 import shutil

@@ -9,17 +9,20 @@ done; a change is the difference of a line that is accepted and the same line re
 gate.
 """
 
+from __future__ import annotations
+
 import sys
 from collections.abc import Iterator
 from typing import Any
 
-from maps import flat, levels, paired
+from maps import few_hosts, flat, hosts, levels, paired
 from running import Folder, heading, in_folder, instructions, output, program, row, table
 
 EPOCH, STALE = 100_000, 900_000
 # One bucket, and three levels.
 SHAPES: tuple[Any, ...] = (flat, levels)
 FEW, MANY, POOLS = 1_024, 4_096, 32
+POOL_COUNTS, OSD_COUNTS = (1, 16, 256), (256, 1_024, 4_096)
 STATES = ['"down":[5]', '"up":[5]']
 # The group in the middle of all groups of 32 pools: its pair replaced by another, and its pair there and not there.
 MIDDLE = "16.800"
@@ -87,12 +90,32 @@ def list_rows(runs: Folder) -> Iterator[Any]:
     )
 
 
+def pool_rows(runs: Folder) -> Iterator[Any]:
+    """What lines cost that name the last pool, or none, as there are more pools of 16 groups."""
+    kinds = [runs.map(few_hosts("straw2", 16, pools)) for pools in POOL_COUNTS]
+    lasts = [*zip(kinds, POOL_COUNTS)]
+    yield row("a line `up`", lambda: [a_line(runs, stated, f"up {last}.7\n") for stated, last in lasts])
+    yield row("one OSD down or up", lambda: [a_change(runs, stated, STATES) for stated in kinds])
+    moved = [[f'"new_items":[["{last}.3",[[{osd},63]]]]' for osd in (61, 60)] for last in POOL_COUNTS]
+    yield row("one pair of a group", lambda: [a_change(runs, *each) for each in zip(kinds, moved)])
+
+
+def osd_rows(runs: Folder) -> Iterator[Any]:
+    """What a plan of a pool of one group costs as there are more OSDs."""
+    kinds = [runs.map(hosts(count, 16, 1)) for count in OSD_COUNTS]
+    yield row("a line `balance`", lambda: [a_line(runs, stated, "balance 1 16\n", 5, 15) for stated in kinds])
+
+
 def main() -> None:
     path = program(__doc__)
     heading("Single things, in instructions")
     in_folder(path, lambda runs: table(["what", "64 OSDs in one bucket", "1,024 OSDs in 3 levels"], single_rows(runs)))
     heading("A change of one pair among exceptions, in instructions")
     in_folder(path, lambda runs: table(["what", "no other group has one", "131,071 others have one"], list_rows(runs)))
+    heading("Lines beside more pools, in instructions")
+    in_folder(path, lambda runs: table(["what", *(f"pools: {count}" for count in POOL_COUNTS)], pool_rows(runs)))
+    heading("A plan of a pool of one group over more OSDs, in instructions")
+    in_folder(path, lambda runs: table(["what", *(f"OSDs: {count:,}" for count in OSD_COUNTS)], osd_rows(runs)))
 
 
 if __name__ == "__main__":

@@ -13,6 +13,8 @@ of a run without scripts over a store with so many rows, which were written to m
 no part of the gate.
 """
 
+from __future__ import annotations
+
 import os
 import pathlib
 import shutil

@@ -1,6 +1,8 @@
 """Maps of 1,024 OSDs and 4,096 groups of size 10 whose plans find little to move, or move again and again what a
 move has opened."""
 
+from __future__ import annotations
+
 from typing import Any
 
 from maps import a_map, pool

@@ -12,6 +12,8 @@ changes that are accepted less that of the same lines refused as stale, which ar
 the change itself costs. It is no part of the gate.
 """
 
+from __future__ import annotations
+
 import functools
 import sys
 from collections.abc import Iterator

@@ -10,6 +10,8 @@ Ceph then places otherwise than the program does after its plan, *taken back* th
 would clean the plan's exceptions away. It is no part of the gate.
 """
 
+from __future__ import annotations
+
 import os
 import subprocess
 import sys

@@ -17,6 +17,8 @@ table has every cluster that comes in, before its plan and after it. Sets are th
 the gate.
 """
 
+from __future__ import annotations
+
 import json
 import math
 import os

@@ -11,6 +11,8 @@ A plan is that of one pool, with 1,024 moves at most. The tools are given the tw
 Python. Over the most groups that there may be the tools are not measured. It is no part of the gate.
 """
 
+from __future__ import annotations
+
 import functools
 from collections.abc import Iterator
 from typing import Any

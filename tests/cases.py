@@ -1,6 +1,8 @@
 """What all tests stand on: the program that is tested, and what a failure tells, with the command that runs it
 alone."""
 
+from __future__ import annotations
+
 import contextlib
 import functools
 import json
@@ -64,6 +66,8 @@ class Case(unittest.TestCase):
     is_alone = False
     # Whether ROW chooses rows of the tests.
     has_rows = False
+    # Whether these are tests of form: they look at sources, pages and figures alone, and need no program.
+    is_form = False
     # The variables that name the programs which are tested.
     PROGRAMS: tuple[str, ...] = ("OSDMAPD",)
 

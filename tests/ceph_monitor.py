@@ -5,6 +5,8 @@ has its dumps, of which keys that nobody reads here were left out, and for each 
 away and the up sets that it then had.
 """
 
+from __future__ import annotations
+
 import collections
 import json
 import pathlib
@@ -18,15 +20,13 @@ from rekhuso.commands.whatif import commands_of, options_of
 from rekhuso.plans.question import Question, sets_of_maps
 
 from tests.clusters import STOCK, Json, ceph_set, commands, copied, kept
+from tests.runs import zipped
 from tests.tool_cases import StockCase
 
 DATA = kept("operators.json.gz")
 WORST, RECORDS = DATA["clusters"], DATA["records"]
-# What advice moves, as the monitor then had it: 15 places of 192, and 97 of 195.
-MOVED = {
-    "by_pool_weights": "which moves data: 15 of 192 places of",
-    "hammer": "some half of the places of pools 1 and 2",
-}
+# What advice moves, as the monitor then had it.
+MOVED = {"by_pool_weights": "which moves data: 15 of 192 places of"}
 
 
 def with_given(record: Json) -> Json:
@@ -48,7 +48,7 @@ def moved(name: str, was: Json, now: Json) -> tuple[int, int]:
         old, new = was[group][0], now[group][0]
         if group.split(".")[0] in erasure:
             groups += old != new
-            places += sum(osd is not None and osd != before for before, osd in zip(old, new, strict=True))
+            places += sum(osd is not None and osd != before for before, osd in zipped(old, new))
         else:
             groups += set(old) != set(new)
             places += len(set(new) - set(old) - {None})
@@ -195,6 +195,18 @@ class CephMonitor(StockCase):
                 self.assertEqual(
                     set(told["below_min_size"]), {group for group in sets if left[group] < least[group] <= was[group]}
                 )
+
+    def test_coming_up(self) -> None:
+        """OSDs that were down come back by `--up`: a place comes to them of each set of the monitor in which they
+        stand, and no group is short any more."""
+        own = copied(WORST["racks"]["osd_dump"])
+        for osd in own["osds"]:
+            osd["up"] = int(osd["osd"] not in (5, 6))
+        back = [len({5, 6} & {*places}) for places, _ in WORST["racks"]["up"].values()]
+        for words in (["--up", "5", "6"], ["--up", "osd.5", "--up", "6", "--up", "7"]):
+            told = self.json("whatif", *self.files("racks", own), *words)
+            self.assertEqual((told["groups"], told["places"]), (len([one for one in back if one]), sum(back)))
+            self.assertEqual(told["short"], [])
 
     def test_coming_in(self) -> None:
         """An OSD that went out with a reweight has it again where it comes in, as Ceph keeps it; one that is in stays

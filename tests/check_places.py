@@ -3,6 +3,8 @@
 Each refused map or change has a place of its refusal's number, and each that is accepted has none.
 """
 
+from __future__ import annotations
+
 import functools
 from typing import Any
 

@@ -5,7 +5,10 @@ In the model all is reckoned in fractions: what OSDs carry, in which order pools
 themselves. Each group has an explicit set, so that its mapped set is known without hashes.
 """
 
+from __future__ import annotations
+
 import collections
+import copy
 import json
 import math
 import pathlib
@@ -13,7 +16,7 @@ import re
 import random
 from collections.abc import Iterable, Mapping
 from fractions import Fraction
-from typing import Any
+from typing import Any, Optional
 
 from rekhuso import Monitor
 from rekhuso.cluster.evenness import Spread
@@ -38,10 +41,12 @@ from tests.clusters import (
     raised,
     with_commands,
 )
+from tests.reaches import filled, reach_of
+from tests.runs import zipped
 from tests.tool_cases import StockCase
 
 # A map, the hosts of its OSDs, the racks of its hosts, and the weights of its OSDs; how many bytes each pool holds.
-RandomCluster = tuple[Json, dict[int, int], dict[int, int] | None, dict[int, int]]
+RandomCluster = tuple[Json, dict[int, int], Optional[dict[int, int]], dict[int, int]]
 Held = dict[int, int]
 MOST = 1024
 # Stock clusters of few groups, that come in as one map or two, and one of many pools.
@@ -66,7 +71,8 @@ def random_cluster(rng: random.Random) -> RandomCluster:
 class Model:
     """The definition of a whole plan over a random cluster."""
 
-    def __init__(self, cluster: RandomCluster, held: Held | None = None) -> None:
+    def __init__(self, cluster: RandomCluster, held: Held | None = None, is_by_weight: bool = False) -> None:
+        self.is_by_weight = is_by_weight
         value, self.host_of, self.rack_of, weight_of = cluster
         self.sizes = {pool["id"]: pool["size"] for pool in value["pools"]}
         self.mapped, self.pairs = {}, {}
@@ -79,12 +85,16 @@ class Model:
             if osds[osd]["up"] and osds[osd]["weight"]
         }
         held = held if held and any(held.values()) else None
-        self.total, self.held = sum(self.weights.values()), held
+        self.total, self.held, self.first = sum(self.weights.values()), held, copy.deepcopy(self.mapped)
         self.places = {pool["id"]: pool["pg_num"] * pool["size"] for pool in value["pools"]}
         self.several = [pool["id"] for pool in value["pools"] if pool["pg_num"] > 1]
         mean = Fraction(sum(held.values()) if held else 1, sum(self.places.values()) if held else 1)
         self.of_place = {
             pool: Fraction(held[pool], own) / mean if held else Fraction(0) for pool, own in self.places.items()
+        }
+        self.racks = [own for own in value["rules"][0]["steps"] if own[0] == "choose_firstn"]
+        self.goals: dict[int, Mapping[int, int | Fraction]] = {
+            pool: self.weights if is_by_weight else self.reach(size) for pool, size in self.sizes.items()
         }
         self.before = {pool: self.deviations(pool) for pool in self.places}
 
@@ -96,14 +106,60 @@ class Model:
         """How many groups of a pool each candidate has."""
         return {osd: sum(osd in self.mapped[group] for group in self.groups(pool)) for osd in self.weights}
 
-    def deviations(self, pool: int, most: Fraction | None = None) -> dict[int, Fraction]:
-        """How far each candidate is from its share of a pool."""
-        counts = self.counts(pool)
-        found = {
-            osd: counts[osd] - Fraction(sum(counts.values()) * weight, self.total)
-            for osd, weight in self.weights.items()
+    def reach(self, size: int) -> dict[int, Fraction]:
+        """What part of each group of a pool of a size its rule can give each candidate: racks and hosts get it by
+        weight, at most one place each, and their OSDs by weight."""
+        hosts: dict[int, int] = collections.defaultdict(int)
+        for osd, weight in self.weights.items():
+            hosts[self.host_of[osd]] += weight
+        if not self.racks or self.rack_of is None:
+            parts = filled(hosts, size)
+        else:
+            racks: dict[int, int] = collections.defaultdict(int)
+            for host, weight in hosts.items():
+                racks[self.rack_of[host]] += weight
+            of_rack, parts = filled(racks, size), {}
+            for rack, part in of_rack.items():
+                own = {host: weight for host, weight in hosts.items() if self.rack_of[host] == rack}
+                parts.update({host: part * more for host, more in filled(own, 1).items()})
+        return {
+            osd: parts[self.host_of[osd]] * weight / hosts[self.host_of[osd]] for osd, weight in self.weights.items()
         }
+
+    def shares(self, pool: int, goals: Mapping[int, int | Fraction]) -> dict[int, Fraction]:
+        """The places of a pool, by some goals of the candidates."""
+        places, whole = sum(self.counts(pool).values()), Fraction(sum(goals.values()))
+        return {osd: places * own / whole for osd, own in goals.items()}
+
+    def deviations(self, pool: int, most: Fraction | None = None) -> dict[int, Fraction]:
+        """How far each candidate is from what it can reach of a pool."""
+        counts, shares = self.counts(pool), self.shares(pool, self.goals[pool])
+        found = {osd: counts[osd] - own for osd, own in shares.items()}
         return found if most is None else {osd: max(-most, min(most, own)) for osd, own in found.items()}
+
+    def closed(self, pool: int) -> list[int]:
+        """The candidates that take no groups."""
+        if self.is_by_weight:
+            return []
+        own = [self.shares(other, goals) for other, goals in self.goals.items()]
+        reached = {osd: sum((shares[osd] for shares in own), Fraction(0)) for osd in self.weights}
+        least = (min(Fraction(1), sum(reached.values()) / max(len(reached), 1)) - Fraction(1, 256)) / 2
+        return [osd for osd, whole in reached.items() if whole < least]
+
+    def told(self, pool: int, later: set[int], half: int) -> dict[int, int]:
+        """What the program is told of each candidate: what it carries, and by how much its share by weight is above
+        what it can reach; and of those that take no groups so much that none can come to them."""
+        carried, shares = self.carried(pool, later, half), self.shares(pool, self.goals[pool])
+        by_weight, counts, away = self.shares(pool, self.weights), self.counts(pool), self.deviations(pool)
+        above = {osd: math.floor(256 * own) + carried[osd] for osd, own in away.items()}
+        found = {
+            osd: carried[osd] + math.floor(256 * (by_weight[osd] - shares[osd]) + Fraction(1, 2)) for osd in shares
+        }
+        closed = self.closed(pool)
+        for osd in closed:
+            least = max(above.values()) - 2 * half + 2 + 256 * max(counts[other] for other in closed)
+            found[osd] += max(least - above[osd], 0)
+        return found
 
     def carried(self, pool: int, later: set[int], half: int) -> dict[int, int]:
         """What each candidate carries from the other pools, where some are still to be planned; `half` is that of what
@@ -128,10 +184,50 @@ class Model:
             return False
         return all(hosts.get(osd) != hosts[comes] for osd in osds if osd != leaves)
 
-    def plan(self, pool: int, apart: int, carried: dict[int, int]) -> int:
-        """Makes the moves of the greedy plan of a pool, and tells how many there are."""
+    def above(self, pool: int, half: int) -> dict[int, Fraction]:
+        """How far each candidate counts as above its share of a pool, beside the others as they lie."""
+        told, by_weight = self.told(pool, set(), half), self.shares(pool, self.weights)
+        shares, away = self.shares(pool, self.goals[pool]), self.deviations(pool)
+        offset = {osd: math.floor(256 * (by_weight[osd] - shares[osd]) + Fraction(1, 2)) for osd in shares}
+        return {osd: own + Fraction(told[osd] - offset[osd], 256) for osd, own in away.items()}
+
+    def may_move(self, pool: int, half: int) -> bool:
+        """Whether two candidates differ enough for a move of a pool."""
+        above = self.above(pool, half).values()
+        return max(above) - min(above) > Fraction(2 * half - 2, 256)
+
+    def has_lowered(self, order: list[int], half: int) -> bool:
+        """Whether a place has gone from the OSD that is fullest over all pools, by the best move by which the groups of
+        the cluster gain as much as by any and its pool gains too."""
+        shares = [self.shares(pool, self.goals[pool]) for pool in self.places]
+        away = [self.deviations(pool) for pool in self.places]
+        wanted = {osd: sum(own[osd] for own in shares) for osd in self.weights}
+        groups = {osd: sum((own[osd] for own in away), Fraction(0)) for osd in self.weights}
+        full = max((osd for osd in groups if wanted[osd]), key=lambda osd: (groups[osd] / wanted[osd], -osd))
+        if 256 * groups[full] <= half:
+            return False
+        ways = []
+        for pool in (pool for pool in order if self.counts(pool)[full]):
+            above, closed = self.above(pool, half), self.closed(pool)
+            low = [osd for osd in above if osd not in closed and 256 * (groups[full] - groups[osd]) > 2 * half]
+            ways += [(above[osd] - above[full], pool, osd) for osd in low if above[full] - above[osd] > 1]
+        for _, pool, osd in sorted(ways)[:64]:
+            group = next((group for group in self.groups(pool) if self.is_allowed(group, full, osd)), None)
+            if group is not None:
+                self.put(group, full, osd)
+                return True
+        return False
+
+    def put(self, group: str, leaves: int, comes: int) -> None:
+        """A group goes from a candidate to another."""
+        own = self.mapped[group]
+        own[own.index(leaves)] = comes
+        self.pairs[group] += 1
+
+    def plan(self, pool: int, apart: int, carried: dict[int, int], most: int = MOST) -> int:
+        """Makes the moves of the greedy plan of a pool, at most so many, and tells how many there are."""
         groups = self.groups(pool)
-        for moves in range(MOST):
+        for moves in range(most):
             counts = self.counts(pool)
             held = sum(counts.values())
             away = {
@@ -152,19 +248,25 @@ class Model:
             own = self.mapped[groups[at]]
             own[own.index(leaves)] = comes
             self.pairs[groups[at]] += 1
-        return MOST
+        return most
 
     def play(self, wanted: list[int], half: int) -> None:
-        """Plans some pools in two rounds."""
+        """Plans some pools in rounds, where any has a move beside the others as they lie: the first one comes first.
+        In the first round those count with less that may have more moves."""
         order = sorted(wanted, key=lambda pool: (-(self.of_place if self.held else self.places)[pool], pool))
-        later = set(wanted)
-        for _ in range(2):
-            moves = 0
-            for pool in order:
-                moves += self.plan(pool, 2 * half, self.carried(pool, later, half))
+        moves = any(self.plan(pool, 2 * half, self.told(pool, set(), half), 1) for pool in order)
+        later = {pool for pool in order if self.may_move(pool, half)}
+        while True:
+            made = 0
+            for pool in order if moves else []:
+                made += self.plan(pool, 2 * half, self.told(pool, later, half))
                 later.discard(pool)
-            if not moves:
+            moves = True
+            while not made and not self.held and self.has_lowered(order, half):
+                moves = False
+            if moves and not made:
                 return
+            moves = True
 
 
 class LastPass:
@@ -176,13 +278,19 @@ class LastPass:
         self.sizes: dict[str, int] = {}
         for pool, size in model.sizes.items():
             groups = model.groups(pool)
-            for group, part in zip(groups, object_parts(len(groups)), strict=True):
+            for group, part in zipped(groups, object_parts(len(groups))):
                 self.sizes[group] = math.floor(held.get(pool, 0) * 65536 * Fraction(part) / size)
         self.load: dict[int, int] = {
             osd: sum(size for group, size in self.sizes.items() if osd in model.mapped[group]) for osd in model.weights
         }
-        whole = sum(self.load.values())
-        self.want = {osd: Fraction(whole * weight, model.total) for osd, weight in model.weights.items()}
+        self.want = dict.fromkeys(model.weights, Fraction(0))
+        for pool, goals in model.goals.items():
+            places = [self.sizes[group] for group in model.groups(pool) for osd in model.mapped[group] if osd in goals]
+            for osd, goal in goals.items():
+                self.want[osd] += sum(places) * Fraction(goal) / Fraction(sum(goals.values()))
+        shares = [model.shares(pool, goals) for pool, goals in model.goals.items()]
+        self.groups = {osd: sum((own[osd] for own in shares), Fraction(0)) for osd in model.weights}
+        self.start = self.measures(model.first)
         self.is_far, self.most, self.most_all = False, dict.fromkeys(model.places, Fraction(2)), Fraction(3)
 
     def go_far(self) -> None:
@@ -205,6 +313,32 @@ class LastPass:
         pairs = ((leaves, -size), (comes, size))
         away = [(self.load[osd] - self.want[osd], more, self.want[osd]) for osd, more in pairs]
         return sum(((own**2 - (own + more) ** 2) / want for own, more, want in away), Fraction(0))
+
+    def measures(self, sets: Mapping[str, list[int]]) -> list[dict[int, tuple[Fraction, Fraction]]]:
+        """By groups and by bytes, of each OSD the ratio to its share, and the square of how far it is from it."""
+        found: list[dict[int, tuple[Fraction, Fraction]]] = [{}, {}]
+        for osd, share in self.groups.items():
+            here = [group for group, osds in sets.items() if osd in osds]
+            has, load = Fraction(len(here)), Fraction(sum(self.sizes[group] for group in here))
+            found[0].update({osd: (has / share, (has - share) ** 2)} if share else {})
+            found[1].update({osd: (load / self.want[osd], (load / self.want[osd] - 1) ** 2)} if self.want[osd] else {})
+        return found
+
+    def stays_even(self, leaves: int, comes: int, groups: int, size: int) -> bool:
+        """Whether by groups and by bytes all stays as even as before the plan, or gets no less even, where so much goes
+        from an OSD to another; asked for the sake of OSDs that stay far above their shares alone."""
+        now = self.measures(self.model.mapped) if self.is_far else []
+        for own, was, more, share in zip(now, self.start, (groups, size), (self.groups, self.want)):
+            parts = {comes: Fraction(more) / share[comes], leaves: -Fraction(more) / share[leaves]}
+            scale = {osd: share[osd] if share is self.groups else Fraction(1) for osd in parts}
+            after = {osd: own[osd][0] + part for osd, part in parts.items()}
+            rise = sum(((after[osd] - 1) * scale[osd]) ** 2 - own[osd][1] for osd in parts)
+            whole = sum(square for _, square in own.values())
+            if rise > 0 and whole + rise > sum(square for _, square in was.values()):
+                return False
+            if after[comes] > max(ratio for ratio, _ in was.values()):
+                return False
+        return True
 
     def keeps(self, pools: Iterable[int], leaves: int, comes: int, most: Fraction) -> bool:
         """Whether some pools together stay within so many groups of their shares, or get nearer, or no further."""
@@ -236,8 +370,9 @@ class LastPass:
             for pool in self.wanted
             for osd in self.want
             if osd != full and self.keeps([pool], full, osd, self.most[pool])
-            if self.keeps(self.model.places, full, osd, self.most_all)
+            if self.keeps(self.model.places, full, osd, self.most_all) and osd not in self.model.closed(pool)
             for size in self.on(pool, full)
+            if self.stays_even(full, osd, 1, size)
         )
         for gain, pool, osd, size in ways:
             group = self.group(pool, size, full, osd) if gain < 0 else None
@@ -256,8 +391,10 @@ class LastPass:
             if osd != full
             if pool == other or self.keeps([pool], full, osd, self.most[pool])
             if pool == other or self.keeps([other], osd, full, self.most[other])
+            if osd not in self.model.closed(pool) and full not in self.model.closed(other)
             for size in self.on(pool, full)
             for less in self.on(other, osd)
+            if self.stays_even(full, osd, 0, size - less)
         )
         for _, pool, osd, size, other, less in [way for way in ways if way[0] < 0][:64]:
             group, back = self.group(pool, size, full, osd), self.group(other, less, osd, full)
@@ -309,20 +446,23 @@ class Measured:
                     for number, part in enumerate(object_parts(pool["pg_num"]))
                     for osd in places(sets[f"{pool['id']}.{number:x}"])
                 ]
-                for tree in taken if len(whole) == sum(map(len, taken)) else [whole]:
-                    weights = {osd: items[osd] * osds[osd] for osd in tree if osds.get(osd)}
-                    self.add([entry for entry in own if entry[0] in tree], weights)
+                weights = {osd: items[osd] * osds[osd] for osd in whole if osds.get(osd)}
+                trees: list[Mapping[int, float | Fraction]] = [weights]
+                if len(whole) == sum(map(len, taken)):
+                    trees = [*reach_of(value, pool, weights)]
+                for tree in trees:
+                    self.add([entry for entry in own if entry[0] in tree], tree)
 
-    def add(self, own: list[tuple[int, float]], weights: dict[int, int]) -> None:
+    def add(self, own: list[tuple[int, float]], weights: Mapping[int, float | Fraction]) -> None:
         """Counts the places of a pool, each with what it holds."""
-        total = sum(weights.values())
+        total = float(sum(weights.values()))
         for at in (0, 1):
             sizes = [(osd, size if at else 1) for osd, size in own]
             held = sum(size for osd, size in sizes if osd in weights)
             for osd, size in sizes:
                 self.has[at][osd] = self.has[at].get(osd, 0) + size
             for osd, weight in weights.items():
-                self.share[at][osd] = self.share[at].get(osd, 0) + held * weight / total
+                self.share[at][osd] = self.share[at].get(osd, 0) + held * float(weight) / total
 
     def ratios(self, at: int) -> list[float]:
         """What each OSD has to its share."""
@@ -379,7 +519,8 @@ class ClusterPlans(StockCase):
                 held = {pool["id"]: rng.choice([0, 1, 7, 10**6]) * rng.randint(1, 10**9) for pool in value["pools"]}
             deviation = None if case >= 16 else rng.choice(["0.5", "1", "1.25", None])
             words = (["--df", self.df_of(held)] if held else []) + (["--deviation", deviation] if deviation else [])
-            model = Model(cluster, held)
+            words += ["--by-weight"] if case % 5 == 4 else []
+            model = Model(cluster, held, case % 5 == 4)
             wanted = [1] if case % 8 == 2 else [2] if case % 8 == 4 else model.several
             words += ["--pool", wanted[0]] if len(wanted) == 1 and wanted != model.several else []
             words += ["--room"] if case >= 16 else []

@@ -5,6 +5,8 @@ clusters have them since 2016; a real monitor of Ceph 16.2.15 made and dumped th
 left out. All up sets are Ceph's.
 """
 
+from __future__ import annotations
+
 import gzip
 import json
 from collections.abc import Iterable
@@ -78,9 +80,8 @@ def bucket_of(own: Json, name: str) -> Json:
 
 
 def commands(output: str) -> list[str]:
-    """The commands of a plan's output, without the comments round them, and without what ends it where one of them
-    fails."""
-    return [line for line in output.splitlines() if not line.startswith("#") and line != "set -e"]
+    """The commands of a script, without what stands round them."""
+    return [line for line in output.splitlines() if line.startswith("ceph ")]
 
 
 def group_of(command: str) -> str:
@@ -130,12 +131,18 @@ def uneven(name: str = "002-built", hosts: int = 3) -> tuple[Json, Json]:
     return own["osd_dump"], own["crush_dump"]
 
 
+def with_groups(pool: Json, groups: int) -> Json:
+    """A pool of an OSD dump that has so many groups, and is to keep them."""
+    targets = dict.fromkeys(("pg_num_pending", "pg_num_target", "pg_placement_num_target"), groups)
+    return dict(pool, pg_num=groups, pg_placement_num=groups, **targets)
+
+
 def pooled(count: int) -> tuple[Json, Json]:
     """The dumps of a cluster with so many pools of different sizes, by one rule."""
     own = copied(CLUSTERS["002-built"])
     pool = own["osd_dump"]["pools"][0]
     own["osd_dump"]["pools"] = [
-        dict(pool, pool=number, pool_name=f"pool{number}", pg_num=groups, pg_placement_num=groups, size=size)
+        dict(with_groups(pool, groups), pool=number, pool_name=f"pool{number}", size=size)
         for number, groups, size in ((1, 96, 3), (7, 64, 2), (40, 48, 3))[:count]
     ]
     return own["osd_dump"], own["crush_dump"]

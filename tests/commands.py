@@ -3,6 +3,8 @@
 What keeps a cluster out of the maps is written beside it by hand.
 """
 
+from __future__ import annotations
+
 import itertools
 import json
 import re
@@ -177,7 +179,7 @@ class Commands(ToolCase):
         status, _, error = self.tools.run(
             "whatif", self.tools.put("m", value), "--out", host["id"], "--picture", "no/flows.svg"
         )
-        self.assertEqual((status, error), (1, "no/flows.svg: No such file or directory\n"))
+        self.assertEqual((status, error), (2, "no/flows.svg: No such file or directory\n"))
         status, output, _ = self.tools.run("whatif", self.tools.put("m", value), "--each", "1")
         self.assertEqual(status, 0)
         self.assertEqual(len(output.splitlines()), 8)
@@ -321,22 +323,24 @@ class Commands(ToolCase):
         self.assertEqual(self.tools.run("picture", "uneven.json", "even.json"), (0, kept, ""))
 
     def test_hostile(self) -> None:
-        """Input that is none ends with a clear line and status 1."""
+        """Input that is none ends with a clear line: with status 2 where a file cannot be read, and with 1 where a map
+        is refused or a name is not there."""
         osd, crush = self.tools.dumps("001-built")
-        for words in (
-            ("import", osd, self.tools.put("x", "{")),
-            ("import", self.tools.put("x", "[]"), crush),
-            ("import", crush, osd),
-            ("import", osd, "nowhere"),
-            ("df", self.tools.put("x", '{"buckets":[]}')),
-            ("explain", self.tools.put("m", self.tools.map("002-built")), "9.9"),
-            ("plan", osd, crush, "--pool", "nobody"),
-            ("diff", self.tools.put("x", ""), osd),
-            ("whatif", self.tools.put("m", self.tools.map("002-built")), "--out", "nobody"),
+        value, none = self.tools.put("m", self.tools.map("002-built")), self.tools.put("none", "")
+        for wanted, words in (
+            (2, ("import", osd, self.tools.put("cut", "{"))),
+            (2, ("import", self.tools.put("list", "[]"), crush)),
+            (2, ("import", crush, osd)),
+            (2, ("import", osd, "nowhere")),
+            (1, ("df", self.tools.put("bare", '{"buckets":[]}'))),
+            (1, ("explain", value, "9.9")),
+            (1, ("plan", osd, crush, "--pool", "nobody")),
+            (2, ("diff", none, osd)),
+            (1, ("whatif", value, "--out", "nobody")),
         ):
             with self.subTest(words=words):
                 status, output, error = self.tools.run(*words)
-                self.assertEqual((status, output), (1, ""), (words, status, error[-300:]))
+                self.assertEqual((status, output), (wanted, ""), (words, status, error[-300:]))
                 self.assertTrue(error, (words, status, error[-300:]))
                 self.assertNotIn("Traceback", error, (words, status, error[-300:]))
         bad = copied(CLUSTERS["001-built"])

@@ -3,6 +3,8 @@
 A cluster of twelve OSDs in four hosts, with two pools of 96 and of 64 groups; what they hold is made up.
 """
 
+from __future__ import annotations
+
 import json
 import pathlib
 import random

@@ -3,7 +3,8 @@
 What pools hold is made up. Sets are the program's, and how full OSDs are is reckoned from them here.
 """
 
-import json
+from __future__ import annotations
+
 import pathlib
 import random
 from collections.abc import Mapping
@@ -19,7 +20,6 @@ from tests.tool_cases import StockCase
 MANY, HYBRID = "025-many-pools", "018-hybrid"
 # Clusters of which plans leave OSDs too full, the draws of what their pools hold, and the words of the plans.
 REASONS: tuple[tuple[str, int, tuple[str, ...]], ...] = (
-    ("006-class-rules-only", 1, ()),
     ("011-drained", 1, ("--room",)),
     ("011-drained", 3, ("--room",)),
 )
@@ -126,7 +126,7 @@ class DataPlans(StockCase):
 
     def test_several_blocks(self) -> None:
         """A pool whose rule has two blocks is planned by data: each place goes to an OSD of its own block, each copy
-        on a host of its own, and the fullest OSD comes to its share. Without data it gets no plan, as before."""
+        on a host of its own, and the fullest OSD comes to its share. Without data the pool gets even by groups."""
         held = made_up(HYBRID, 1)
         files, maps, of_place = self.with_data(HYBRID, held)
         value = next(own for own in maps if own["pools"][0]["id"] == 2)
@@ -146,7 +146,12 @@ class DataPlans(StockCase):
             self.assertEqual(len({hosts[osd] for osd in rest}), 2, group)
         told = self.json("plan", *files)
         self.assertEqual([parts["refused"] for parts in told["pools"]], [None])
-        self.assertIn("29 ", self.json("plan", *files[:2])["pools"][0]["refused"])
+        for words in ((), ("--alone",)):
+            lines = self.json("plan", *files[:2], *words)["commands"]
+            given = [with_commands(own, [line for line in lines if is_of(line, own)]) for own in maps]
+            measured = Measured(given, self.sets(*given), of_place)
+            self.assertLess(measured.all()[0], 0.8, words)
+            self.assertGreater(Measured(maps, self.sets(*maps), of_place).all()[0], 3)
 
     def test_where_a_group_may_go(self) -> None:
         """Over random maps a group may go, by the blocks of its rule, from one OSD to another where the definition of

@@ -1,5 +1,7 @@
 """What `df` tells of OSDs and of a whole map, beside the columns of Ceph's own command."""
 
+from __future__ import annotations
+
 import json
 import pathlib
 import re

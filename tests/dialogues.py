@@ -1,7 +1,8 @@
 """The dialogues that pages show are what the program and its tools answer, and so is what the shell answers to a
 pipe."""
 
-import errno
+from __future__ import annotations
+
 import json
 import os
 import pathlib
@@ -13,11 +14,13 @@ import sys
 import tempfile
 from collections.abc import Iterator
 
-from rekhuso.commands.shell import put_whole
+from rekhuso.faults import Trouble
+from rekhuso.files import put
 
 from tests.cases import EXAMPLE, EXAMPLES, HERE, Case
-from tests.clusters import STOCK, Json, copied
+from tests.clusters import STOCK, Json, copied, kept
 from tests.live_sessions import ran
+from tests.reach import with_weights
 from tests.stores import StoreCase, store_program
 from tests.tool_cases import TOOLS
 
@@ -99,6 +102,14 @@ def held(osd_dump: Json, lines: list[str]) -> Json:
     return dict(osd_dump, pg_upmap_items=pairs)
 
 
+def put_older(folder: pathlib.Path) -> None:
+    """Puts the dumps of a cluster with hammer's tunables into a folder, and its CRUSH map with jewel's."""
+    own = kept("operators.json.gz")["clusters"]["hammer"]
+    newer = dict(own["crush_dump"], tunables=dict(own["crush_dump"]["tunables"], chooseleaf_stable=1))
+    for name, dump in (("older-osd", own["osd_dump"]), ("older-crush", own["crush_dump"]), ("jewel", newer)):
+        (folder / f"{name}.json").write_text(json.dumps(dump))
+
+
 def like(answer: str, line: str) -> bool:
     """Whether a line that was put out is the one of a page, where two points at its end stand for the rest."""
     return answer.startswith(line[:-3]) if line.endswith("..\n") else answer == line
@@ -121,8 +132,10 @@ class Dialogues(Case):
                 text=True,
                 cwd=folder,
                 timeout=SECONDS,
-                check=True,
+                check=False,
             )
+            told = "save: no/where: No such file or directory\n"
+            self.assertEqual((done.returncode, done.stderr), (2, told), "the map that was not saved")
             self.assertEqual(
                 done.stdout.splitlines(),
                 [
@@ -151,17 +164,18 @@ class Dialogues(Case):
                 text=True,
                 cwd=folder,
                 timeout=SECONDS,
-                check=True,
+                check=False,
             )
-            self.assertEqual(done.stdout.splitlines(), ["/dev/full: No space left on device"])
+            told = "/dev/full: No space left on device\n"
+            self.assertEqual((done.returncode, done.stdout, done.stderr), (2, told, f"save: {told}"))
             after = pathlib.Path(folder, "after")
             held, (soft, hard) = after.read_text(), resource.getrlimit(resource.RLIMIT_FSIZE)
             try:
                 resource.setrlimit(resource.RLIMIT_FSIZE, (100, hard))
-                put_whole(str(after), "x" * 101)
+                put(str(after), "x" * 101)
                 raise AssertionError("a text beyond the limit of a file is written")
-            except OSError as fault:
-                self.assertEqual(fault.errno, errno.EFBIG)
+            except Trouble as fault:
+                self.assertEqual(fault.lines, [f"{after}: File too large"])
             finally:
                 resource.setrlimit(resource.RLIMIT_FSIZE, (soft, hard))
             self.assertEqual((os.listdir(folder), after.read_text()), (["after"], held))
@@ -184,6 +198,9 @@ class Dialogues(Case):
                 (folder / f"other-{part}.json").write_text(json.dumps(other[f"{part}_dump"]))
             for file in ("osd.json", "crush.json", "new.json"):
                 (folder / file).write_bytes((EXAMPLES / "ceph" / file).read_bytes())
+            small = with_weights(json.loads((folder / "crush.json").read_text()), dict.fromkeys((10, 11), 29802))
+            (folder / "small.json").write_text(json.dumps(small))
+            put_older(folder)
             command = folder / "rekhuso"
             command.write_text(f'#!/bin/sh\nexec {sys.executable} {TOOLS} --program {self.program} "$@"\n')
             command.chmod(0o755)

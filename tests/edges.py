@@ -3,6 +3,8 @@
 Whatever a number is, a command ends soon, with a status and a line, and never with a fault of its own.
 """
 
+from __future__ import annotations
+
 import contextlib
 import io
 import json
@@ -20,7 +22,9 @@ from tests.tool_cases import ToolCase
 # What stands in place of a number; JSON's own text has no end of digits.
 EDGES: list[object] = [10**400, -(10**400), 1e308, -1e308, 2**64, -(2**63), 2**31, -1, 0.5, None, "1"]
 DIGITS = "1" * 5000
-GROUPS: list[object] = [f"{DIGITS}.0", f"1.{DIGITS}", "-1.0", "1"]
+GROUPS: list[object] = [f"{DIGITS}.0", f"1.{DIGITS}", "-1.0", "1", "x", "1.1F", "1.01", "1.1\n", "", None]
+# What is told of a text that is no group as Ceph writes them.
+NO_GROUP = "no group; one is written as 1.1f"
 SECONDS = 30
 
 
@@ -129,6 +133,35 @@ class Edges(ToolCase):
                 status, error = self.ended("import", osd, self.tools.put("crush", files["crush"]))
                 self.assertEqual((status, error.splitlines()), (1, [f"{osd}: {told}"]))
 
+    def test_groups(self) -> None:
+        """A group that is not written as Ceph writes them is told by its place, whichever command reads the dump, and
+        whichever table has it."""
+        files = cluster_files()
+        del files["crush"]["choose_args"]["-1"]
+        crush, pool = self.tools.put("crush", files["crush"]), files["osd"]["pools"][0]["pool"]
+        commands: list[list[object]] = [
+            ["import"],
+            ["plan"],
+            ["df"],
+            ["explain", f"{pool}.0"],
+            ["whatif", "--out", "1"],
+            ["hold", "--weight", "osd.1=1"],
+            ["release"],
+        ]
+        for group in ("x", f"{pool}.1F", f"{pool}.01", f"{pool}.1\n", ""):
+            for table in ("pg_upmap", "pg_upmap_items", "pg_upmap_primaries"):
+                osd = self.tools.put("osd", with_value(files["osd"], (table, 0, "pgid"), group))
+                for command, *words in commands if table == "pg_upmap_items" else commands[:1]:
+                    with self.subTest(command=command, table=table, group=group):
+                        status, error = self.ended(command, osd, crush, *words)
+                        self.assertEqual((status, error), (1, f"{osd}: {table}[0].pgid: {NO_GROUP}\n"))
+        osd = self.tools.put("osd", files["osd"])
+        for group in ("x", f"{pool}.1F", f"{pool}.01"):
+            with self.subTest(group=group):
+                pgs = self.tools.put("pgs", with_value(files["pgs"], ("pg_stats", 0, "pgid"), group))
+                status, error = self.ended("plan", osd, crush, "--pgs", pgs)
+                self.assertEqual((status, error), (1, f"{pgs}: pg_stats[0].pgid: {NO_GROUP}\n"))
+
     def test_numbers_of_maps(self) -> None:
         """Each number and each group of a map and of its names."""
         value = json.loads(EXAMPLE.read_text())
@@ -153,6 +186,9 @@ class Edges(ToolCase):
             ["plan", EXAMPLE, "--deviation="],
             ["plan", EXAMPLE, "--alone", "--deviation="],
             ["plan", EXAMPLE, "--to", "parts", "--batch="],
+            ["plan", EXAMPLE, "--to", "parts", "--batch", "5", "--osd-most="],
+            ["plan", EXAMPLE, "--to", "parts", "--batch", "5", "--host-most="],
+            ["next", EXAMPLE, EXAMPLE, EXAMPLE, "--pgs", EXAMPLE, "--most="],
             ["explain", EXAMPLE, ""],
             ["history", EXAMPLE, "--at="],
             ["whatif", EXAMPLE, "--out="],

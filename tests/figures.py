@@ -1,6 +1,8 @@
 """The figures of the pages can be counted again: each is tied to the rows and the column of a table in bench/results
 from which it comes, or to what a page there says, and is that number to as many digits as the page gives."""
 
+from __future__ import annotations
+
 import math
 import re
 import unittest
@@ -252,16 +254,6 @@ TIES = [
     Tie("bench/README.md", "`past 60 s`"),
     Tie(
         "docs/CEPH.md",
-        "Over {} stock clusters it had {} to {} in {} of them, and none in the others",
-        (
-            Cells("whole_cluster", ALL, "second plan", len),
-            Cells("whole_cluster", ALL, "second plan", lambda values: min(filter(None, values))),
-            Cells("whole_cluster", ALL, "second plan", max),
-            Cells("whole_cluster", ALL, "second plan", lambda values: sum(value > 0 for value in values)),
-        ),
-    ),
-    Tie(
-        "docs/CEPH.md",
         "Over 60 clusters with data drawn twice for each, {} of {} runs had such an OSD before, and {} have one after "
         "`plan --df`. In {} of them",
         by_runs("above 1.1 before", "runs", "above 1.1 after", "above 1.1 by any plan"),
@@ -341,6 +333,8 @@ def tied(page: str) -> list[tuple[int, int]]:
 
 class Figures(Case):
     """Figures of pages, beside the results."""
+
+    is_form = True
 
     def test_ties(self) -> None:
         """Each figure that is tied is what its rows and column, or the words of a page of results, give"""

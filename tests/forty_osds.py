@@ -8,6 +8,8 @@ squares of the deviations, and, over all groups and pairs of OSDs, whether some 
 themselves are those of model.py.
 """
 
+from __future__ import annotations
+
 import json
 import pathlib
 import tempfile
@@ -15,6 +17,7 @@ import tempfile
 from tests import model, soak
 from tests.cases import Case
 from tests.clusters import Json
+from tests.runs import zipped
 
 OSDS, HOSTS, RACKS, GROUPS, LIMIT = 40, 12, 4, 256, 1024
 DOWN, OUT, LIGHTER = [7, 20], [12], {3: 32768, 30: 49152}
@@ -177,6 +180,6 @@ class FortyOsds(Case):
         with tempfile.TemporaryDirectory() as folder:
             _, play = soak.run(self.program, pathlib.Path(folder), [], value)
             found = play(lines)
-        unlike = [(line, *pair) for line, *pair in zip(lines, found, answers, strict=True) if pair[0] != pair[1]]
+        unlike = [(line, *pair) for line, *pair in zipped(lines, found, answers) if pair[0] != pair[1]]
         self.assertEqual(unlike[:3], [], "lines, what they answer, and what the model does")
         self.assertEqual(faults(value, found), [])

@@ -4,6 +4,8 @@ Stores are made here by Python's SQLite, by the two tables that docs/FORMATS.md 
 stands beside it, by hand.
 """
 
+from __future__ import annotations
+
 import contextlib
 import json
 import os
@@ -15,11 +17,15 @@ import struct
 import subprocess
 import sys
 from collections.abc import Callable, Iterable, Iterator
+from unittest import mock
+
+from rekhuso import Unopened
+from rekhuso.program import stores
 
 from tests import model
 from tests.cases import example
 from tests.clusters import Json
-from tests.tool_cases import ToolCase
+from tests.tool_cases import AS_MONITOR, ToolCase
 
 SECONDS = 60
 # The tables of a store.
@@ -214,6 +220,23 @@ class Histories(ToolCase):
                 wanted = model.answers(example(), [*lines, "dump"])[-1].removeprefix("dump ")
                 self.assertEqual(self.output("history", path, "--at", epoch), wanted + "\n")
 
+    def test_more_changes_than_a_run_takes(self) -> None:
+        """A run of the program takes only so many changes, here three; the map of an epoch behind more of them is made
+        in several runs, and is the one that the independent program has after them."""
+        own = f'{AS_MONITOR}shift 3\nexec "{self.tools.program}" --stock --journal 3 "$@"\n'
+        program = self.tools.put("few", own)
+        program.chmod(0o755)
+        journal = stores.journal_in(str(self.store()))
+        with self.assertRaises(Unopened) as fault, stores.map_at(journal, 5, program):
+            pass
+        self.assertEqual(fault.exception.reason, "row 5: JournalFull")
+        for epoch in (1, 3, 4, 5, 7, 8, journal.last):
+            lines = [f"change {json.dumps(change)}" for change in changes()[: epoch - 1]]
+            wanted = model.answers(example(), [*lines, "dump"])[-1].removeprefix("dump ")
+            with self.subTest(epoch=epoch), mock.patch.object(stores, "MOST", 3):
+                with stores.map_at(journal, epoch, program) as monitor:
+                    self.assertEqual(monitor.text(), wanted)
+
     def test_epochs_outside(self) -> None:
         """An epoch that the store does not tell of is refused with those that it tells of, and a word that is none is
         an error of use, as is what would be passed over beside it."""
@@ -307,7 +330,7 @@ class Histories(ToolCase):
                 cases.append((name, foreign))
         for name, told in cases:
             with self.subTest(name=name):
-                self.is_told(self.tools.run("history", self.path(name)), 1, f"{self.path(name)}: {told}", name)
+                self.is_told(self.tools.run("history", self.path(name)), 2, f"{self.path(name)}: {told}", name)
 
     def test_stores_that_do_not_hold_together(self) -> None:
         """A first map or a row that is refused, or out of its order, is told; so is one that the program refuses where
@@ -335,16 +358,16 @@ class Histories(ToolCase):
                 path = self.path(name)
                 with store_at(path, *TABLES) as database:
                     fill(database, first, found)
-                self.is_told(self.tools.run("history", path), 1, f"{path}: {told}", name)
+                self.is_told(self.tools.run("history", path), 2, f"{path}: {told}", name)
                 at = 2 if found else 1
-                self.is_told(self.tools.run("history", path, "--at", at), 1, f"{path}: {refused}", name)
+                self.is_told(self.tools.run("history", path, "--at", at), 2, f"{path}: {refused}", name)
         for name, count in (("none", 0), ("two", 2)):
             with self.subTest(name=name):
                 with store_at(self.path(name), *TABLES) as database:
                     maps = [(epoch, json.dumps(example())) for epoch in range(1, 1 + count)]
                     database.executemany("INSERT INTO map VALUES (?, ?)", maps)
                 told = f"{self.path(name)}: the store is damaged"
-                self.is_told(self.tools.run("history", self.path(name)), 1, told, name)
+                self.is_told(self.tools.run("history", self.path(name)), 2, told, name)
 
     def test_damaged_files(self) -> None:
         """A store whose tables are broken, or that ends early, is told as damaged."""
@@ -357,7 +380,7 @@ class Histories(ToolCase):
             with self.subTest(name=name):
                 self.path(name).write_bytes(text)
                 told = f"{self.path(name)}: the store is damaged"
-                self.is_told(self.tools.run("history", self.path(name)), 1, told, name)
+                self.is_told(self.tools.run("history", self.path(name)), 2, told, name)
 
     def test_sums_of_pages(self) -> None:
         """Where pages end in sums they are tested: a store that another SQLite has written, or of which a byte has
@@ -385,4 +408,4 @@ class Histories(ToolCase):
             with self.subTest(name=name):
                 self.path(name).write_bytes(change(whole))
                 told = f"{self.path(name)}: the store is damaged, or another program has written it: the sum of page "
-                self.is_told(self.tools.run("history", self.path(name)), 1, told, name)
+                self.is_told(self.tools.run("history", self.path(name)), 2, told, name)

@@ -3,6 +3,8 @@
 What is told of each is written here by hand.
 """
 
+from __future__ import annotations
+
 import json
 import subprocess
 from collections.abc import Callable
@@ -181,10 +183,10 @@ class Imports(ToolCase):
         )
         return status, output, error.splitlines()
 
-    def reasons(self, osd_dump: Any, crush_dump: Any, *words: object) -> list[str]:
+    def reasons(self, osd_dump: Any, crush_dump: Any, *words: object, status: int = 1) -> list[str]:
         """What keeps a cluster out, once nothing was put out."""
-        status, output, lines = self.imported(osd_dump, crush_dump, *words)
-        self.assertEqual((status, output), (1, ""), (status, lines))
+        found, output, lines = self.imported(osd_dump, crush_dump, *words)
+        self.assertEqual((found, output), (status, ""), (found, lines))
         return lines
 
     def test_each_reason(self) -> None:
@@ -281,7 +283,7 @@ class Imports(ToolCase):
 
     def test_unread(self) -> None:
         """Two files that are no dumps are both told."""
-        found = [line.rsplit("/", 1)[-1] for line in self.reasons("{", "[]")]
+        found = [line.rsplit("/", 1)[-1] for line in self.reasons("{", "[]", status=2)]
         self.assertEqual(len(found), 2)
         self.assertStarts(found[0], "o: no JSON: ")
         self.assertEqual(found[1], "c: no JSON object")

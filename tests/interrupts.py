@@ -1,7 +1,10 @@
 """Commands of the tools that are interrupted, also in the shell, and a shell whose program goes."""
 
+from __future__ import annotations
+
 import json
 import os
+import pathlib
 import signal
 import subprocess
 import sys
@@ -11,7 +14,7 @@ from rekhuso import Monitor
 
 from tests.cases import EXAMPLE, example
 from tests.terminals import Terminal
-from tests.tool_cases import TOOLS, ToolCase
+from tests.tool_cases import AS_MONITOR, TOOLS, ToolCase
 from tests.tool_errors import SECONDS
 
 # Has Ctrl-C come exactly when a program has been started and before who has started it knows it; tells the program's
@@ -24,6 +27,8 @@ from rekhuso import Monitor
 class Started(subprocess.Popen):
     def __init__(self, *words, **more):
         super().__init__(*words, **more)
+        if "--version" in words[0]:
+            return
         print(self.pid, flush=True)
         if sys.argv[4] == "here":
             signal.raise_signal(signal.SIGINT)
@@ -38,6 +43,24 @@ try:
     Monitor("{}", sys.argv[2], sessions=int(sys.argv[3]))
 except KeyboardInterrupt:
     print("interrupted", signal.getsignal(signal.SIGINT) is before)
+"""
+
+# Runs a command, and has Ctrl-C come at an import by its number behind the first words of the tools.
+BROUGHT_IN = """
+import builtins, runpy, signal, sys
+tools, wanted, sys.argv = sys.argv[1], int(sys.argv[2]), ["rekhuso", *sys.argv[3:]]
+brought, count = builtins.__import__, 0
+
+def counted(*words, **more):
+    global count
+    if signal.getsignal(signal.SIGINT) is not signal.default_int_handler or count:
+        count += 1
+    if count == wanted:
+        signal.raise_signal(signal.SIGINT)
+    return brought(*words, **more)
+
+builtins.__import__ = counted
+runpy.run_path(tools, run_name="__main__")
 """
 
 
@@ -64,12 +87,12 @@ class Interrupts(ToolCase):
         ).stdout
         os.kill(int(child), signal.SIGKILL)
         output, error = shell.communicate("epoch\nepoch\n", timeout=SECONDS)
-        self.is_told((shell.returncode, output, error), 1, "the program ended", "killed")
+        self.is_told((shell.returncode, output, error), 2, "the program ended", "killed")
 
     def test_interrupts(self) -> None:
-        """A command that is interrupted ends at once in one line, and its program with it."""
+        """A command that is interrupted ends at once in one line and by the signal, and its program with it."""
         self.tools.put(
-            "slow", '#!/bin/sh\necho $$ > pid.new; mv pid.new "$PIDFILE"; echo session 1; exec sleep 60\n'
+            "slow", AS_MONITOR + 'echo $$ > pid.new; mv pid.new "$PIDFILE"; echo session 1; exec sleep 60\n'
         ).chmod(0o755)
         pid = self.tools.folder / "pid"
         words = [sys.executable, "-B", str(TOOLS), "df", str(EXAMPLE), "--program", str(self.tools.folder / "slow")]
@@ -84,12 +107,39 @@ class Interrupts(ToolCase):
         )  # The tool waits for an answer by now: on a busy machine it may come back from starting the program late.
         done.send_signal(signal.SIGINT)
         output, error = done.communicate(timeout=SECONDS)
-        self.is_told((done.returncode, output, error), 1, "interrupted", "df")
+        self.is_told((done.returncode, output, error), -signal.SIGINT, "interrupted", "df")
         gone = subprocess.run(
             ["ps", "-o", "stat,args", "-p", pid.read_text()], capture_output=True, text=True, check=False
         ).stdout
         self.assertLess(time.monotonic(), begin + 30, (time.monotonic() - begin, gone))
         self.assertNotIn("sleep", gone, (time.monotonic() - begin, gone))
+
+    def test_interrupts_of_loops(self) -> None:
+        """The loop of a shell ends with the command that Ctrl-C ends, as it does with any program."""
+        words = [sys.executable, "-B", str(TOOLS), "df", str(EXAMPLE), "--program", str(self.tools.folder / "slow")]
+        loop = 'for k in 1 2 3; do echo "$k"; "$@"; done; echo behind'
+        pipe, begun = subprocess.PIPE, self.tools.folder / "begun"
+        self.tools.put("slow", f"{AS_MONITOR}echo session 1\ntouch {begun}\nexec sleep 60\n").chmod(0o755)
+        shell = subprocess.Popen(
+            ["bash", "-c", loop, "sh", *words], stdout=pipe, stderr=pipe, text=True, start_new_session=True
+        )
+        while not begun.exists() and shell.poll() is None:
+            time.sleep(0.05)
+        time.sleep(1)
+        # As a terminal has it: the signal comes to all of its group, the shell too.
+        os.killpg(shell.pid, signal.SIGINT)
+        output, error = shell.communicate(timeout=SECONDS)
+        self.assertEqual((shell.returncode, output, error), (-signal.SIGINT, "1\n", "interrupted\n"))
+
+    def test_interrupts_while_modules_come_in(self) -> None:
+        """Ctrl-C before the command has begun ends it by the signal, in silence or in a line, whichever module is being
+        brought in."""
+        for count in (1, 2, 5, 20, 60, 150, 300, 500):
+            with self.subTest(count=count):
+                words = [sys.executable, "-B", "-c", BROUGHT_IN, str(TOOLS), str(count), "df", str(EXAMPLE)]
+                words += ["--program", str(self.tools.program)]
+                done = subprocess.run(words, capture_output=True, text=True, timeout=SECONDS)
+                self.assertIn((done.returncode, done.stderr), [(-2, ""), (-2, "interrupted\n")])
 
     def test_ends_from_outside(self) -> None:
         """A command or a shell that SIGTERM or SIGHUP ends tells nothing, and leaves no program and no folder
@@ -135,7 +185,7 @@ class Interrupts(ToolCase):
     def test_interrupts_at_the_start(self) -> None:
         """Ctrl-C that comes while a program is being started ends it too, whichever thread takes it, and comes
         through."""
-        slow = self.tools.put("slow", "#!/bin/sh\nexec sleep 60\n")
+        slow = self.tools.put("slow", f"{AS_MONITOR}exec sleep 60\n")
         slow.chmod(0o755)
         for sessions in (1, 2):
             with self.subTest(sessions=sessions):
@@ -152,7 +202,11 @@ class Interrupts(ToolCase):
                         (told, done.stderr, left), ("interrupted True\n", "", ""), (sessions, thread, done, left)
                     )
         with Monitor(example(), self.tools.program) as monitor:
-            blocked = next(line for line in open(f"/proc/{monitor._process.pid}/status") if line.startswith("SigBlk"))
+            blocked = next(
+                line
+                for line in pathlib.Path(f"/proc/{monitor._process.pid}/status").read_text().splitlines()
+                if line.startswith("SigBlk")
+            )
             self.assertEqual(int(blocked.split()[1], 16) >> (signal.SIGINT - 1) & 1, 0)
 
     def test_interrupts_in_the_shell(self) -> None:

@@ -1,5 +1,7 @@
 """What each command of the tools tells as JSON: one object, which says what the same command tells as text."""
 
+from __future__ import annotations
+
 import json
 import pathlib
 

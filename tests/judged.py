@@ -2,6 +2,8 @@
 tools, one at a time, and each ends in status 1 and no command. And what the program says of exceptions (`fkept`):
 beside what a real monitor made of them, and beside the tools' own reading, which names the reasons."""
 
+from __future__ import annotations
+
 import contextlib
 import io
 import json
@@ -17,7 +19,7 @@ from rekhuso.cluster.judge import judge_of_map, present_of
 from rekhuso.command_line import parser
 from rekhuso.commands import hold as hold_command
 from rekhuso.output import plan_scripts
-from rekhuso.plans import hold, plan, release, rounds, step_order, steps
+from rekhuso.plans import hold, plan, rounds, step_order, steps
 from rekhuso.plans.bounds import Fullness, Measure, Step
 from rekhuso.plans.printed_commands import commands_in
 from rekhuso.plans.steps import PlanStep

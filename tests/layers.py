@@ -1,5 +1,7 @@
 """How the modules of tools/rekhuso stand on one another, and what their names and values are."""
 
+from __future__ import annotations
+
 import ast
 import copy
 import dataclasses
@@ -57,6 +59,8 @@ def value_classes() -> list[type]:
 
 class Layers(unittest.TestCase):
     """Modules, their names and their values."""
+
+    is_form = True
 
     def test_layers(self) -> None:
         """No module takes a name from a layer above its own."""

@@ -4,6 +4,8 @@ Whatever waits gives up after a minute: a program that has not ended by then is 
 pipes either.
 """
 
+from __future__ import annotations
+
 import errno
 import json
 import os

@@ -1,6 +1,8 @@
 """Every maximum at once: the greatest map, the longest answers, plans and lines, the most sessions, the longest
 journal."""
 
+from __future__ import annotations
+
 from collections.abc import Iterable, Iterator
 from typing import Any
 

@@ -5,23 +5,26 @@
 
 answers the lines `up`, `count`, `groups`, `epoch`, `dump`, `balance` and `change`, as far as nothing in them is
 refused. The answers of examples/balance and of the larger map of forty_osds.py come from here; `model_placements.py`
-holds it against the placements that Ceph's own tools gave. It knows no rule that sets tries.
+holds it against the placements that Ceph's own tools gave.
 """
+
+from __future__ import annotations
 
 import functools
 import json
 import pathlib
 import sys
 from collections.abc import Callable
-from typing import Any
+from typing import Any, Optional
 
 Json = Any
 # A group by its pool and its number; the OSDs of a set, None for an empty place; a group, who leaves it and who comes.
 Group = tuple[int, int]
-Places = list[int | None]
+Places = list[Optional[int]]
 Move = tuple[Group, int, int]
 WORD = 0xFFFFFFFF
-TRIES, LEAF_TRIES = 51, 1
+# How a rule begins to try: how often it looks for an item and for a leaf, and from which number on for a leaf.
+BEGINNING = {"set_choose_tries": 51, "set_chooseleaf_tries": 1, "set_chooseleaf_vary_r": 1, "set_chooseleaf_stable": 1}
 
 
 # Hashes (Ceph, hash.c)
@@ -135,6 +138,7 @@ class Cluster:
         self.explicit = {group_of(text): places for text, places in value.get("pg_upmap", [])}
         self.items = {group_of(text): pairs for text, pairs in value.get("pg_upmap_items", [])}
         self.raws: dict[Group, Places] = {}
+        self.how = dict(BEGINNING)
 
     def take_crush(self, value: Json) -> None:
         """Puts other buckets and rules in the place of those that were."""
@@ -186,26 +190,38 @@ class Cluster:
             if item >= 0:
                 return None, number
 
+    def packed_leaf(self, item: int, x: int, r: int, leaves: Places) -> int | None:
+        """The leaf of a bucket that was picked with a replica number, beside the leaves so far."""
+        vary, first = self.how["set_chooseleaf_vary_r"], 0 if self.how["set_chooseleaf_stable"] else len(leaves)
+        number = first + (r >> vary - 1 if vary else 0)
+        found = (self.descend(item, 0, x, number + more)[0] for more in range(self.how["set_chooseleaf_tries"]))
+        return next((leaf for leaf in found if leaf not in leaves and not self.is_out(leaf, x)), None)
+
     def firstn(self, start: int, count: int, level: int, leafwise: bool, x: int, room: int) -> Places:
         """What packing chooses below a bucket: the items, or their leaves."""
         items: Places = []
         leaves: Places = []
         for replica in range(count):
-            for failures in range(TRIES):
+            for r in range(replica, replica + self.how["set_choose_tries"]):
                 if len(items) == room:
                     return leaves
-                r = replica + failures
                 item, _ = self.descend(start, level, x, r)
                 if item is None:
                     break
-                leaf = self.descend(item, 0, x, r)[0] if leafwise and item < 0 else item
-                is_failure = item in items or leaf is None or leafwise and leaf in leaves
-                if is_failure or self.is_out(leaf, x):
+                if item in items:
                     continue
-                items.append(item)
-                leaves.append(leaf)
-                break
+                leaf = self.packed_leaf(item, x, r, leaves) if leafwise and item < 0 else item
+                if leaf is not None and not self.is_out(leaf, x):
+                    items.append(item)
+                    leaves.append(leaf)
+                    break
         return leaves
+
+    def kept_leaf(self, item: int, x: int, number: int, count: int) -> int | None:
+        """The leaf of a bucket for a position."""
+        tries = range(self.how["set_chooseleaf_tries"])
+        found = (self.descend(item, 0, x, number, (count, more))[0] for more in tries)
+        return next((leaf for leaf in found if not self.is_out(leaf, x)), None)
 
     def indep(self, start: int, count: int, level: int, leafwise: bool, x: int, room: int) -> Places:
         """What choosing for positions gives below a bucket."""
@@ -213,13 +229,13 @@ class Cluster:
         items: Places = [None] * positions
         leaves: Places = [None] * positions
         decided = [False] * positions
-        for rounds in range(TRIES):
+        for rounds in range(self.how["set_choose_tries"]):
             for place in (place for place in range(positions) if not decided[place]):
                 item, number = self.descend(start, level, x, place, (count, rounds))
                 decided[place] = item is None
                 if item is None or item in items:
                     continue
-                leaf = self.descend(item, 0, x, place + number, (count, 0))[0] if leafwise and item < 0 else item
+                leaf = self.kept_leaf(item, x, place + number, count) if leafwise and item < 0 else item
                 if leaf is not None and not self.is_out(leaf, x):
                     items[place], leaves[place], decided[place] = item, leaf, True
         return leaves
@@ -228,8 +244,11 @@ class Cluster:
         """A rule's result."""
         result: Places = []
         working: Places = []
+        self.how = dict(BEGINNING)
         for step in steps:
-            if step[0] == "take":
+            if step[0] in self.how:
+                self.how[step[0]] = step[1]
+            elif step[0] == "take":
                 working = [step[1]]
             elif step[0] == "emit":
                 result, working = result + working[: size - len(result)], []

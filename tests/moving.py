@@ -4,12 +4,15 @@ The monitor (Ceph 16.2.15) made each change of moves.json.gz, which has its dump
 pool that grows these are two monitors', each of which made the pool with so many groups.
 """
 
+from __future__ import annotations
+
 import collections
 import itertools
 import json
 import pathlib
 
 from tests.clusters import Json, kept
+from tests.runs import zipped
 from tests.tool_cases import ToolCase
 
 RECORDS = {(own["cluster"], own["change"]): own for own in kept("moves.json.gz")}
@@ -33,7 +36,7 @@ def steps_of(record: Json) -> dict[str, list[tuple[int | None, int | None]]]:
         pool = old[int(group.split(".")[0])]
         was = record["up"][source(group, pool["pg_num"])][0]
         if pool["type"] == ERASURE:
-            found[group] = [pair for pair in zip(was, now, strict=True) if pair[0] != pair[1]]
+            found[group] = [pair for pair in zipped(was, now) if pair[0] != pair[1]]
         else:
             gone, come = [osd for osd in was if osd not in now], [osd for osd in now if osd not in was]
             found[group] = list(itertools.zip_longest(gone, come))

@@ -1,5 +1,7 @@
 """`net` leaves the sets of all groups as they are, by fewer exceptions, whatever was done before."""
 
+from __future__ import annotations
+
 import json
 import random
 from collections.abc import Iterable

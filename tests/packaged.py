@@ -3,6 +3,8 @@
 What needs a tool that is not there is not run, and that is told.
 """
 
+from __future__ import annotations
+
 import ast
 import functools
 import json
@@ -15,17 +17,16 @@ import sys
 import tarfile
 import tempfile
 import zipfile
-from collections.abc import Iterable
+from collections.abc import Iterable, Iterator
 
 from tests.cases import EXAMPLE, TOP, Case, example
 from tests.clusters import CLUSTERS
 from tests.histories import TABLES, fill, rows, store_at
+from tests.tool_cases import AS_STORE
 
 TOOLS = TOP / "tools"
 SECONDS = 120
 
-# How many times a type may be told as `Any`, which says nothing.
-ANYS = 60
 # Puts out the names of all commands.
 NAMES = """
 from rekhuso.command_line import parser
@@ -79,6 +80,16 @@ def ran(words: Iterable[object], path: object = "", seconds: int = SECONDS) -> t
     return ended.returncode, ended.stdout + ended.stderr
 
 
+def older_pythons() -> Iterator[tuple[str, str]]:
+    """Each Python that is there and older than the tools are for, with its version: on the path, and of pyenv."""
+    found = [shutil.which(f"python3.{minor}") for minor in (6, 7, 8)]
+    found += sorted(map(str, pathlib.Path.home().glob(".pyenv/versions/3.[678].*/bin/python3")))
+    for python in filter(None, found):
+        status, told = ran([python, "-c", "import sys; print('%d.%d.%d' % sys.version_info[:3])"])
+        if status == 0 and told.startswith(("3.6.", "3.7.", "3.8.")):
+            yield python, told.strip()
+
+
 def has_modules(python: object, *names: str) -> bool:
     """Whether a Python has modules of these names."""
     return ran([python, "-c", f"import {', '.join(names)}"])[0] == 0
@@ -122,7 +133,7 @@ def commands_over(place: pathlib.Path) -> list[list[object]]:
         (place / name).write_text(json.dumps(what))
     dumps, other, keeper = [place / "osd", place / "crush"], place / "other", place / "keeper"
     # In place of the program of a store, which would make the copy once.
-    keeper.write_text("#!/bin/sh\necho epoch 1\n")
+    keeper.write_text(f"{AS_STORE}echo epoch 1\n")
     keeper.chmod(0o755)
     return [
         ["--version"],
@@ -136,7 +147,11 @@ def commands_over(place: pathlib.Path) -> list[list[object]]:
         ["diff", EXAMPLE, other],
         ["whatif", EXAMPLE, "--out", "3"],
         ["hold", *dumps, "--weight", "osd.3=1"],
+        ["together", "--help"],
+        ["verify", "--help"],
+        ["next", "--help"],
         ["release", *dumps],
+        ["drain", "--help"],
         ["explain", EXAMPLE, "1.0"],
         ["picture", EXAMPLE, other],
         ["report", EXAMPLE],
@@ -193,6 +208,29 @@ class Packaged(Case):
                 self.assertEqual(
                     ran([*words, "check", EXAMPLE, "--program", self.program], path), (0, f"{EXAMPLE}: lawful\n")
                 )
+
+    def test_first_words(self) -> None:
+        """What an older Python reads first has no word that it does not have: no annotation of a later form."""
+        for name in ("backend.py", "rekhuso/__init__.py", "rekhuso/__main__.py"):
+            with self.subTest(name=name):
+                source = (TOOLS / name).read_text()
+                ast.parse(source, feature_version=(3, 6))
+                self.assertNotIn("from __future__ import annotations", source)
+                first = source.partition("sys.version_info < (3, 9)")[0]
+                self.assertEqual(re.findall("^(?:from|import|class|def) .*", first, re.M)[-1], "import sys")
+
+    def test_older_pythons(self) -> None:
+        """An older Python is told in one line, and nothing else: of a command, of a build, and where it is imported."""
+        found = dict(older_pythons())
+        self.needs("Python before 3.9", bool(found))
+        for python, version in found.items():
+            told = f"rekhuso needs Python 3.9 or later, and this is Python {version}"
+            with self.subTest(python=python):
+                self.assertEqual(ran([python, TOOLS / "rekhuso", "check", EXAMPLE]), (2, f"{told}\n"))
+                self.assertEqual(ran([python, "-m", "rekhuso", "--version"], TOOLS), (2, f"{told}\n"))
+                self.assertEqual(ran([python, "-c", "import backend"], TOOLS), (1, f"{told}\n"))
+                status, error = ran([python, "-c", "import rekhuso"], TOOLS)
+                self.assertEqual((status, error.splitlines()[-1]), (1, f"ImportError: {told}"))
 
     def test_modules_of_a_package(self) -> None:
         """The tools' modules come in below the package's name, and leave the path of modules as it was."""
@@ -263,7 +301,7 @@ class Packaged(Case):
             self.assertEqual(
                 (status, told),
                 (
-                    1,
+                    2,
                     f"no program: no folder of PATH has osdmapd ({folder}); "
                     "`make run` in its repository proves and builds it, "
                     "and --program FILE names it\n",
@@ -327,24 +365,3 @@ class Packaged(Case):
                 words = ["env", "MANROFFSEQ=", "man", "--warnings=w", "-E", "UTF-8", "-l", "-Tutf8", "-Z", path]
                 status, said = ran(words)
                 self.assertEqual((status, "warning" in said), (0, False), said[-300:])
-
-    def test_docstrings(self) -> None:
-        """Every module, class and function of the tools has its docstring."""
-        for path in [*TOOLS.glob("*.py"), *(TOOLS / "rekhuso").rglob("*.py")]:
-            for node in ast.walk(ast.parse(path.read_text())):
-                if isinstance(node, (ast.Module, ast.ClassDef, ast.FunctionDef)):
-                    self.assertTrue(ast.get_docstring(node), f"{path.name}: {getattr(node, 'name', 'the module')}")
-
-    def test_what_types_say(self) -> None:
-        """`Any` stands for a type at few places, and forms of objects are told in one module of each sub-package that
-        has some."""
-        names, forms = [], set()
-        for path in (TOOLS / "rekhuso").rglob("*.py"):
-            for node in ast.walk(ast.parse(path.read_text())):
-                names += [path.name] if isinstance(node, ast.Name) and node.id == "Any" else []
-                is_form = isinstance(node, ast.ClassDef) and any(
-                    isinstance(base, ast.Name) and base.id == "TypedDict" for base in node.bases
-                )
-                forms |= {path.name} if is_form else set()
-        self.assertLessEqual(len(names), ANYS, (len(names), forms))
-        self.assertEqual(forms, {"maps.py", "dump_types.py", "json_forms.py"})

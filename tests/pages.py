@@ -2,6 +2,8 @@
 calls, targets, options, files, links, crates and their files, the chain of proofs, and the edits that
 must not prove. Figures are those of figures.py."""
 
+from __future__ import annotations
+
 import pathlib
 import re
 import unittest
@@ -15,11 +17,14 @@ OPTIONS_OF_OTHERS = {
     "--allow-holes",
     "--dump",
     "--anew",
+    "--form",
     "--format",
     "--jobs",
     "--long",
     "--only",
     "--reweight-item",
+    "--set-chooseleaf-stable",
+    "--set-chooseleaf-vary-r",
     "--table",
     "--test",
     "--tool",
@@ -57,57 +62,6 @@ OTHER_NAMES = {
     "ok",
     "osdmaptool",
 }
-# What pages once said and was false.
-FALSE = [
-    "`lefts`",
-    "Only other laws stand on these",
-    "stands in a crate beside the chain",
-    "One tuple is left",
-    "thirteen numbers",
-    "takes 1,586",
-    "takes 602",
-    "a group instead of 37",
-    "It takes one to three minutes and proves nothing",
-    "take 0.02 seconds",
-    "0.03 seconds in a replicated pool",
-    "0.26 in an erasure pool",
-    "take a tenth of a second",
-    "1,951 instructions",
-    "Measured on:",
-    "a map of 131,072 groups (32 pools of 4,096)",
-    "and the primary and not the up set",
-    "`import` and `check` tell every reason",
-    "groups were placed anew",
-    "taken all its turns",
-    "One thing has one word. ",
-    "No crate has more than 110 functions",
-    "Two numbers also stand bare",
-    "a writer tells its answer",
-    "with two answers left free",
-    "also of a live session (`IsLeftIn`)",
-    "an answer of a monitor that nobody has changed is that of the map",
-    "| A refused change changes nothing |",
-    "scripts in `osdmapd`",
-    "only *look* and *gate* mean two",
-    "with two exceptions: `Step`",
-    "only a handful of worked runs",
-    "| ids of OSDs (0 to 1,023) |",
-    "replica of its group. If it has fewer moves than its limit, no good move is left.",
-    "ends where no two OSDs differ",
-]
-# What comments said in other words than the pages, or falsely.
-FALSE_IN_COMMENTS = [
-    "Of so many OSDs nothing is known",
-    "growth was refused",
-    "growth may be refused",
-    "want of memory",
-    "1 to 32",
-    "no rules or more than 32,",
-    "placed anew",
-    "its module undoes",
-    "replica of its group. If it has fewer moves than its limit, no good move is left.",
-    "ends where no two OSDs differ",
-]
 # What a command line has of itself.
 OF_PARSERS = {"--help", "--version"}
 # The lists of places in CONTRIBUTING.md: of each the enums whose variants are looked for, or the struct whose fields
@@ -328,6 +282,8 @@ def named_in(source: str, kind: str, names: set[str]) -> set[str]:
 class Pages(Case):
     """What pages say, beside the repository."""
 
+    is_form = True
+
     def test_program_of_the_library(self) -> None:
         """The program that docs/LIBRARY.md shows is the one that the gate proves and runs, and so is what it prints"""
         page = text("docs", "LIBRARY.md")
@@ -439,25 +395,6 @@ class Pages(Case):
         self.assertGreater(len(crates), 20, (floors ^ crates, layers ^ crates))
         self.assertEqual(floors, layers, (floors ^ crates, layers ^ crates))
         self.assertEqual(layers, crates, (floors ^ crates, layers ^ crates))
-
-    def test_false_sentences(self) -> None:
-        """No page and no comment says again what was found to be false"""
-        said = {(page.name, sentence) for page in pages() for sentence in FALSE if sentence in f"{flat(page)} "}
-        paths = [
-            path
-            for part in ("src", "specs")
-            for end in ("rt", "antt")
-            for path in (TOP / "crates").glob(f"*/{part}/**/*.{end}")
-        ]
-        paths += (TOP / "tools" / "rekhuso").rglob("*.py")
-        said.update(
-            (str(path), words)
-            for path in paths
-            for words in FALSE_IN_COMMENTS
-            if words in " ".join(path.read_text("utf-8").replace("///", "").split())
-        )
-        self.assertGreater(len(paths), 100, said)
-        self.assertFalse(said)
 
     def test_lists_of_places(self) -> None:
         """Each file that a list of CONTRIBUTING.md names is there, and each file of a crate that has a kind of bucket,

@@ -7,6 +7,8 @@ with what the map alone defines. Under `--stock` the buckets of a history may be
 like, and all answers must be those of model.py as well.
 """
 
+from __future__ import annotations
+
 import json
 import pathlib
 import random
@@ -19,7 +21,7 @@ from tests import model
 from tests.cases import RowCase
 from tests.clusters import Json
 from tests.rows import MAPS, with_values, written
-from tests.runs import Check, Run
+from tests.runs import Check, Run, zipped
 
 # The pools of a map by their numbers.
 Pools = dict[int, Json]
@@ -58,15 +60,19 @@ def random_forest(rng: random.Random, osds: int, kinds: tuple[str, ...]) -> tupl
 
 
 def random_rules(rng: random.Random, hosts: list[int], kinds: tuple[str, ...]) -> list[Json]:
-    """Rules of both kinds over hosts and over OSDs. One takes twice; one sets tries first, where no model follows."""
+    """Rules of both kinds over hosts and over OSDs. One takes twice; one sets tries first, and under `--stock` another
+    from which number on leaves are sought."""
 
     def block(host: int, count: int) -> list[list[Any]]:
         return [["take", host], ["choose_firstn", count, 0], ["emit"]]
 
-    tries: list[list[Any]] = [] if "straw2" in kinds else [["set_choose_tries", rng.randint(1, 60)]]
+    tries: list[list[Any]] = [["set_choose_tries", rng.randint(1, 60)]]
+    leaves: list[list[Any]] = []
+    if "straw2" in kinds:
+        leaves = [["set_chooseleaf_vary_r", rng.randint(0, 4)], ["set_chooseleaf_stable", rng.randint(0, 1)]]
     one, other, third, fourth = (rng.choice(hosts) for _ in range(4))
     steps: list[list[list[Any]]] = [
-        [["take", -1], [step, 0, 1], ["emit"]] for step in ("chooseleaf_firstn", "chooseleaf_indep")
+        leaves + [["take", -1], [step, 0, 1], ["emit"]] for step in ("chooseleaf_firstn", "chooseleaf_indep")
     ]
     steps += [block(one, 0), block(other, 1) + block(third, 0), tries + block(fourth, 0)]
     return [{"id": rule, "kind": KIND_OF[rule], "steps": own} for rule, own in enumerate(steps)]
@@ -100,7 +106,7 @@ def random_map(rng: random.Random, kinds: tuple[str, ...]) -> Json:
         "osds": states,
         "pools": sorted(pools, key=lambda pool: int(pool["id"])),
         "rules": rules,
-        "version": 1 if "straw2" in kinds else 2,
+        "version": 2,
     }
 
 
@@ -202,7 +208,7 @@ class History:
             anew = self.answers(program, folder, mine[-1].removeprefix("dump "), wanted)
             wrong += [
                 f"{self.name}, epoch {epoch}: {line}: {one}, built anew {other}"
-                for line, one, other in zip(wanted, mine, anew, strict=True)
+                for line, one, other in zipped(wanted, mine, anew)
                 if one != other
             ]
         return wrong + (self.unlike_model(patched) if self.words else [])
@@ -211,7 +217,7 @@ class History:
         """What the model answers otherwise."""
         return [
             f"{self.name}: {line}: {one}, the model {other}"
-            for line, one, other in zip(self.lines, patched, model.answers(self.first, self.lines), strict=True)
+            for line, one, other in zipped(self.lines, patched, model.answers(self.first, self.lines))
             if one != other
         ]
 

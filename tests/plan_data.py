@@ -1,6 +1,8 @@
 """What a plan tells of the data that moves, by what `ceph df` tells of pools: each group holds what its part of the
 objects' hashes comes to."""
 
+from __future__ import annotations
+
 import json
 
 from tests.clusters import Json, commands, named_pools, with_commands
@@ -96,4 +98,5 @@ class PlanData(ToolCase):
         ):
             with self.subTest(what=what):
                 path = self.tools.put("w", wrong)
-                self.assertEqual(self.tools.run("plan", *self.files, "--df", path), (1, "", f"{path}: {what}\n"))
+                status = 2 if what in ("no JSON object", "no pools in it") else 1
+                self.assertEqual(self.tools.run("plan", *self.files, "--df", path), (status, "", f"{path}: {what}\n"))

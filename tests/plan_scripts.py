@@ -1,5 +1,7 @@
 """The scripts that `plan` puts out: what they tell, what takes them back, and how they are cut into parts."""
 
+from __future__ import annotations
+
 import json
 import pathlib
 import subprocess
@@ -162,7 +164,8 @@ class PlanScripts(ToolCase):
         self.tells(undone, f"The way back from a plan over epoch {value['epoch']}", after, before)
         for pool in osd_dump["pools"]:
             pool["pool_name"] += "\ntouch one\r\u2028touch two `touch three` $(touch four); touch five"
-        text = self.tools.run("plan", self.tools.put("o", osd_dump), self.tools.put("c", crush_dump))[1]
+        files = self.tools.put("o", osd_dump), self.tools.put("c", crush_dump)
+        text = self.tools.run("plan", *files, "--no-guard")[1]
         self.tools.put("ceph", f'#!/bin/sh\necho ceph "$@" >> {self.tools.folder}/ran\n').chmod(0o755)
         done = subprocess.run(
             ["sh", self.tools.put("plan.sh", text)],
@@ -253,7 +256,7 @@ class PlanScripts(ToolCase):
         ):
             with self.subTest(told=told):
                 status, output, error = self.tools.run("plan", *files, "--batch", 9, "--to", folder)
-                self.assertEqual((status, output, error.splitlines()[-1]), (1, "", told), (folder, output, error))
+                self.assertEqual((status, output, error.splitlines()[-1]), (2, "", told), (folder, output, error))
         self.assertEqual([path.name for path in (self.tools.folder / "full").iterdir()], ["plan-007.sh"])
         done = self.tools.run("plan", *files, "--alone", "--undo", "--batch", 1000, "--to", "full")
         self.assertEqual(done[:2], (0, "full/undo-001.sh\n"))

@@ -7,9 +7,12 @@ pool by itself wants a difference above the weight of all candidates; one that c
 a group, and is asked for under `--stock`.
 """
 
+from __future__ import annotations
+
 import json
 import random
 from collections.abc import Iterator
+from typing import Optional
 
 from tests.cases import RowCase
 from tests.clusters import Json
@@ -17,7 +20,7 @@ from tests.rows import written
 from tests.runs import Run
 
 # A map, the hosts of its OSDs, the racks of its hosts, and the weights of its OSDs.
-RandomMap = tuple[Json, dict[int, int], dict[int, int] | None, dict[int, int]]
+RandomMap = tuple[Json, dict[int, int], Optional[dict[int, int]], dict[int, int]]
 SEED = 20261123
 
 

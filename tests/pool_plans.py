@@ -1,6 +1,8 @@
 """Plans of pools over clusters of Ceph's and over small random maps, whose plans are reckoned by brute force
 (plans.py)."""
 
+from __future__ import annotations
+
 import json
 import random
 import stat
@@ -19,8 +21,9 @@ from tests.clusters import (
     raised,
     uneven,
     with_commands,
+    with_groups,
 )
-from tests.tool_cases import ToolCase, Tools
+from tests.tool_cases import AS_MONITOR, ToolCase, Tools
 
 
 def cleaned(value: Json, raw: dict[str, list[int]]) -> Json:
@@ -112,25 +115,28 @@ class PoolPlans(ToolCase):
         status, output, error = self.tools.run("import", *dumps, "--names", "names")
         self.assertEqual(status, 0, error)
         path = self.tools.put("m", output)
-        by_id = self.tools.run("plan", path, "--pool", "1")
+        by_id = self.tools.run("plan", path, "--pool", "1", "--no-guard")
         self.assertEqual(by_id[0], 0)
         self.assertTrue(by_id[1], by_id)
         self.assertStarts(pool_lines(by_id[2])[0], "pool 1: ")
         named = self.tools.run("plan", path, "--names", "names", "--pool", name)
         self.assertEqual(commands(named[1]), commands(by_id[1]))
         self.assertEqual(named[2], by_id[2].replace("pool 1: ", f"{name}: "))
-        of_dumps = self.tools.run("plan", *dumps, "--pool", name)
+        of_dumps = self.tools.run("plan", *dumps, "--pool", name, "--no-guard")
         self.assertEqual((commands(of_dumps[1]), of_dumps[2]), (commands(by_id[1]), named[2]))
         # A map does not tell which release clients have, so its script says when not to set one.
         unsure = [line for line in by_id[1].splitlines(keepends=True) if "get-require-min-compat-client" in line]
         self.assertEqual(len(unsure), 1)
-        self.assertEqual(of_dumps[1].replace(f"  {name}\n", "  pool 1\n"), by_id[1].replace(unsure[0], ""))
+        # What a script is made of stands in its first lines, up to the one on the balancer.
+        told, wanted = (script[script.index("# before: ") :] for script in (of_dumps[1], by_id[1]))
+        self.assertEqual(told.replace(f"  {name}\n", "  pool 1\n"), wanted.replace(unsure[0], ""))
         bare = {key: value for key, value in json.loads(output).items() if not key.startswith("pg_upmap")}
         for words in ((), ("--deviation", "1")):
             with self.subTest(words=words):
-                self.assertEqual(
-                    self.tools.run("plan", self.tools.put("bare", bare), *words), self.tools.run("plan", path, *words)
-                )
+                given = [self.tools.put("bare", bare), path]
+                runs = [self.tools.run("plan", one, *words) for one in given]
+                of_bare, of_whole = ((code, script[script.index("# before: ") :], why) for code, script, why in runs)
+                self.assertEqual(of_bare, of_whole)
         for words in (("--pool", name), ("--names", "names", "--pool", "nobody"), ("--pool", "2")):
             with self.subTest(words=words):
                 status, output, error = self.tools.run("plan", path, *words)
@@ -139,7 +145,7 @@ class PoolPlans(ToolCase):
     def test_one_session(self) -> None:
         """A plan, of a map or of two dumps, whole or shortened, and `net` and `df` ask one live session each."""
         counting = self.tools.put(
-            "counting", f'#!/bin/sh\necho start >> {self.tools.folder}/starts\nexec {self.tools.program} "$@"\n'
+            "counting", f'{AS_MONITOR}echo start >> {self.tools.folder}/starts\nexec {self.tools.program} "$@"\n'
         )
         counting.chmod(counting.stat().st_mode | stat.S_IXUSR)
         path = self.tools.put("m", dict(self.tools.map("009-classes"), pg_upmap_items=[["1.0", [[0, 1], [1, 0]]]]))
@@ -242,7 +248,7 @@ class PoolPlans(ToolCase):
         first = own["osd_dump"]["pools"][0]
         names = {5: "plain", 6: "with,commas", 7: "5"}
         own["osd_dump"]["pools"] = [
-            dict(first, pool=number, pool_name=name, pg_num=4, pg_placement_num=4) for number, name in names.items()
+            dict(with_groups(first, 4), pool=number, pool_name=name) for number, name in names.items()
         ]
         for key in ("pg_upmap", "pg_upmap_items"):
             with self.subTest(key=key):

@@ -3,10 +3,10 @@
 What needs a tool that is not there is not run, and that is told.
 """
 
-import os
-import pathlib
+from __future__ import annotations
+
+import ast
 import shutil
-import sys
 import tempfile
 
 from tests.cases import HERE, TOP, Case
@@ -15,6 +15,8 @@ from tests.packaged import ran
 TOOLS, BENCH = TOP / "tools", TOP / "bench"
 # Without the cache of another run types take long.
 SECONDS = 300
+# How many times a type of the tools may be told as `Any`, which says nothing.
+ANYS = 60
 OWN = [*sorted(TOOLS.glob("*.py")), *sorted((TOOLS / "rekhuso").rglob("*.py"))]
 FILES = [*OWN, *sorted(HERE.glob("*.py")), *sorted(BENCH.glob("*.py"))]
 
@@ -28,11 +30,22 @@ def has_black() -> bool:
 class PythonFiles(Case):
     """Files of Python."""
 
+    is_form = True
+
     def test_types(self) -> None:
-        """`mypy --strict` finds nothing in the tools, the tests and the benches."""
+        """`mypy --strict` finds nothing in the tools, the tests and the benches, as Python 3.9 reads them."""
         self.needs("mypy", shutil.which("mypy") is not None)
         with tempfile.TemporaryDirectory() as folder:
-            words = ["env", f"MYPYPATH={TOP}:{TOOLS}", "mypy", "--strict", "--cache-dir", folder]
+            words = [
+                "env",
+                f"MYPYPATH={TOP}:{TOOLS}",
+                "mypy",
+                "--strict",
+                "--python-version",
+                "3.9",
+                "--cache-dir",
+                folder,
+            ]
             for name, files in (("tools", OWN), ("tests", [HERE]), ("bench", sorted(BENCH.glob("*.py")))):
                 with self.subTest(name=name):
                     status, told = ran([*words, *files], seconds=SECONDS)
@@ -51,23 +64,29 @@ class PythonFiles(Case):
         status, told = ran(["black", "--check", "--config", TOOLS / "pyproject.toml", *FILES])
         self.assertEqual(status, 0, told[-600:])
 
-    def test_what_is_not_run(self) -> None:
-        """What is not run for want of a tool is told in the summary of all tests."""
-        with tempfile.TemporaryDirectory() as folder:
-            words = [sys.executable, HERE / "run.py", "--table", "python_files", "--only", "test_types", self.program]
-            status, told = ran(["env", f"PATH={folder}", *words])
-        first, *reasons = told.splitlines()
-        self.assertEqual((status, first.split(" (")[0]), (0, "python_files: 0 of 0 runs passed, 1 NOT RUN"))
-        self.assertEqual(reasons, [f"python_files: NOT RUN, since there is no mypy: {self.test_types.__doc__}"])
+    def test_names(self) -> None:
+        """pyflakes finds nothing: no name is imported or set in vain, and none is used that nothing sets."""
+        flakes = next((name for name in ("pyflakes3", "pyflakes") if shutil.which(name)), "")
+        self.needs("pyflakes (Debian: pyflakes3)", flakes != "")
+        self.assertEqual(ran([flakes, *FILES]), (0, ""))
 
-    def test_what_has_failed(self) -> None:
-        """The summary of all tests names at its end each test that has failed."""
-        with tempfile.TemporaryDirectory() as folder:
-            mypy = pathlib.Path(folder) / "mypy"
-            mypy.write_text("#!/bin/sh\nexit 1\n")
-            mypy.chmod(0o755)
-            words = [sys.executable, HERE / "run.py", "--table", "python_files", "--only", "test_types", self.program]
-            status, told = ran(["env", f"PATH={folder}:{os.environ['PATH']}", *words])
-        head, name = told.splitlines()[-2:]
-        self.assertEqual((status, head.split(",")[0]), (1, "FAILED: 3 runs"))
-        self.assertEqual(name, "    tests.python_files.PythonFiles.test_types: 3")
+    def test_docstrings(self) -> None:
+        """Every module, class and function of the tools has its docstring."""
+        for path in OWN:
+            for node in ast.walk(ast.parse(path.read_text())):
+                if isinstance(node, (ast.Module, ast.ClassDef, ast.FunctionDef)):
+                    self.assertTrue(ast.get_docstring(node), f"{path.name}: {getattr(node, 'name', 'the module')}")
+
+    def test_what_types_say(self) -> None:
+        """`Any` stands for a type at few places, and forms of objects are told in one module of each sub-package that
+        has some."""
+        names, forms = [], set()
+        for path in (TOOLS / "rekhuso").rglob("*.py"):
+            for node in ast.walk(ast.parse(path.read_text())):
+                names += [path.name] if isinstance(node, ast.Name) and node.id == "Any" else []
+                is_form = isinstance(node, ast.ClassDef) and any(
+                    isinstance(base, ast.Name) and base.id == "TypedDict" for base in node.bases
+                )
+                forms |= {path.name} if is_form else set()
+        self.assertLessEqual(len(names), ANYS, (len(names), forms))
+        self.assertEqual(forms, {"maps.py", "dump_types.py", "json_forms.py"})

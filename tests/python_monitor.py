@@ -1,5 +1,7 @@
 """`Monitor`, by which a program in Python speaks with a live session, and the errors that it has."""
 
+from __future__ import annotations
+
 import doctest
 import functools
 import json
@@ -13,9 +15,12 @@ from concurrent.futures import ThreadPoolExecutor
 from unittest import mock
 
 from rekhuso import Closed, Fault, Monitor, Refused
+from rekhuso.faults import Trouble
 
 from tests import model, soak
 from tests.cases import EXAMPLE, EXAMPLES, TOP, Case, example
+from tests.runs import zipped
+from tests.tool_cases import AS_MONITOR
 
 SECONDS = 60
 
@@ -38,7 +43,7 @@ class PythonMonitor(Case):
                 f"count {osd}",
             ]
         with Monitor(value, self.program, timeout=SECONDS) as monitor:
-            for line, wanted in zip(script, model.answers(value, script), strict=True):
+            for line, wanted in zipped(script, model.answers(value, script)):
                 self.assertEqual(monitor.raw([line]), [wanted])
             self.assertEqual(monitor.epoch(), value["epoch"] + 100)
             self.assertEqual(monitor.up(groups[0]).epoch, value["epoch"] + 100)
@@ -80,7 +85,7 @@ class PythonMonitor(Case):
         pipe."""
         with tempfile.TemporaryDirectory() as folder:
             silent = pathlib.Path(folder) / "silent"
-            silent.write_text("#!/bin/sh\nexec sleep 60\n")
+            silent.write_text(f"{AS_MONITOR}exec sleep 60\n")
             silent.chmod(0o755)
             for tried, sessions in ((self.program, 1), (self.program, 2), (silent, 1), (silent, 2)):
                 with self.subTest(tried=tried.name, sessions=sessions), self.assertRaises(Fault) as fault:
@@ -98,7 +103,7 @@ class PythonMonitor(Case):
             os.kill(gone._process.pid, signal.SIGKILL)
             with self.assertRaises(Fault) as fault:
                 gone.epoch()
-            self.assertEqual(type(fault.exception), Fault)
+            self.assertEqual(type(fault.exception), Trouble)
             self.assertEqual(str(fault.exception), "the program ended with status -9")
             sessions = [*closed.sessions, gone]
             for session in sessions:

@@ -3,6 +3,8 @@
 The program is the one that OSDMAPSTORE names, else the one that is built here; without one nothing is run.
 """
 
+from __future__ import annotations
+
 import contextlib
 import json
 import os
@@ -23,9 +25,11 @@ from tests.cases import EXAMPLE, example
 from tests.histories import CHANGES, TABLES, fill, held, rows, store_at
 from tests.stores import store_program
 from tests.terminals import Terminal
-from tests.tool_cases import TOOLS, ToolCase
+from tests.tool_cases import AS_STORE, TOOLS, ToolCase
 
 SECONDS = 60
+# So many changes has a store that is only looked at.
+MANY = 3_000
 STOCK_BUCKET = dict(example()["buckets"][0], kind="straw2")
 
 
@@ -218,7 +222,7 @@ class PythonStores(ToolCase):
         with store_at(self.path(), "UPDATE journal SET change = replace(change, '[2]', '[3]')"):
             pass
         told = f"{self.path()}: the store is damaged, or another program has written it"
-        self.is_told(self.tools.run("history", self.path()), 1, told, "changed")
+        self.is_told(self.tools.run("history", self.path()), 2, told, "changed")
         self.is_unopened("the store is damaged, or another program has written it", self.monitor)
 
     def test_backup(self) -> None:
@@ -238,10 +242,34 @@ class PythonStores(ToolCase):
         ):
             with self.subTest(store=store):
                 told = self.tools.run("backup", self.path(store), self.path(to), *words)
-                self.is_told(told, 1, f"{self.path(store)}: {reason}", store)
+                self.is_told(told, 2, f"{self.path(store)}: {reason}", store)
         other = self.tools.run("backup", self.path(), self.path("other"), "--store-program", self.tools.program)
-        self.is_told(other, 1, f"{self.tools.program}: ", "another program")
+        self.is_told(other, 2, f"{self.tools.program}: ", "another program")
         self.assertFalse(self.path("other").exists())
+
+    def test_looking(self) -> None:
+        """Who only looks at a store leaves the bytes of its file as they are, however many changes it has."""
+        with store_at(self.path(), *TABLES) as database:
+            fill(database, example(), [(1 + base, f'plain {{"base":{base},"up":[1]}}') for base in range(1, 1 + MANY)])
+        with self.monitor(name="store"):
+            pass
+        before = self.path().read_bytes()
+        words = ["--store-program", store_program()]
+        looks: dict[str, Callable[[], object]] = {
+            "history": lambda: self.output("history", self.path()),
+            "history --at": lambda: self.output("history", self.path(), "--at", 7),
+            "backup": lambda: self.output("backup", self.path(), self.path("copy"), *words),
+            "shell": lambda: self.assertEqual(
+                self.shell("--store", self.path(), typed="epoch\n"), (0, f"epoch {1 + MANY}\n", "")
+            ),
+        }
+        for name, look in looks.items():
+            with self.subTest(name=name):
+                look()
+                self.assertEqual(self.path().read_bytes(), before)
+        with self.monitor() as monitor:
+            self.assertEqual(monitor.epoch(), 1 + MANY)
+        self.assertEqual(self.path().read_bytes(), before)
 
     def shell(self, *words: object, typed: str) -> tuple[int, str, str]:
         """What a shell tells over lines that are typed."""
@@ -255,13 +283,13 @@ class PythonStores(ToolCase):
         typed = 'change {"base":1,"down":[2]}\nup 1.0\nquit\n'
         self.assertEqual(self.shell("--store", path, typed=typed), (0, "ok 2 evals 0\nup 2 1.0 [3,0] 3\n", ""))
         self.assertEqual(self.shell("--store", path, typed="epoch"), (0, "epoch 2\n", ""))
-        self.is_told(self.shell("--store", path, EXAMPLE, typed=""), 1, f"{path}: the store has a first map", "begun")
-        self.is_told(self.shell("--store", self.path("no"), typed=""), 1, ": there is no store at this path", "missing")
+        self.is_told(self.shell("--store", path, EXAMPLE, typed=""), 2, f"{path}: the store has a first map", "begun")
+        self.is_told(self.shell("--store", self.path("no"), typed=""), 2, ": there is no store at this path", "missing")
         osd, crush = self.tools.dumps("002-built")
         status, output, error = self.shell(osd, crush, "--store", "dumps", typed="epoch\n")
         self.assertEqual((status, output), (0, f"epoch {self.tools.map('002-built')['epoch']}\n"), error)
         told = f"{osd}: this is an OSD dump, and no map"
-        self.is_told(self.shell(osd, "--store", "dump", typed=""), 1, told, "dump")
+        self.is_told(self.shell(osd, "--store", "dump", typed=""), 2, told, "dump")
         self.is_told(self.shell("--store", path, "--pools", "1", typed=""), 2, "go with two dumps alone", "pools")
 
     def test_shell_at_a_terminal(self) -> None:
@@ -292,7 +320,7 @@ class PythonStores(ToolCase):
             (folder / "osdmapstore").symlink_to(program)
         tools = shutil.copytree(TOOLS, self.path("tools") / "rekhuso", ignore=shutil.ignore_patterns("__pycache__"))
         words = [sys.executable, "-B", str(tools), "shell", "--store", str(self.path()), str(EXAMPLE), "--program"]
-        cases = [(beside / "osdmapd", "/nowhere", 0), (self.path("osdmapd"), path, 0), (self.path("osdmapd"), "/no", 1)]
+        cases = [(beside / "osdmapd", "/nowhere", 0), (self.path("osdmapd"), path, 0), (self.path("osdmapd"), "/no", 2)]
         for program, where, status in cases:
             with self.subTest(program=program, where=where), mock.patch.dict(os.environ, {"PATH": str(where)}):
                 with contextlib.suppress(FileNotFoundError):
@@ -309,9 +337,9 @@ class PythonStores(ToolCase):
     def test_program_that_is_none(self) -> None:
         """A program that does not tell the epoch first is another, and one that tells nothing in time is ended."""
         for name, text, told in (
-            ("other", "#!/bin/sh\necho session 1\nexec cat\n", ": another program: its output begins with b'session 1"),
-            ("silent", "#!/bin/sh\nexec sleep 60\n", "no answer within 0.2 seconds"),
-            ("gone", "#!/bin/sh\necho 'store: gone' >&2\nexit 7\n", "the program ended with status 7: store: gone"),
+            ("other", f"{AS_STORE}echo session 1\nexec cat\n", ": another program: its output begins with b'session 1"),
+            ("silent", f"{AS_STORE}exec sleep 60\n", "no answer within 0.2 seconds"),
+            ("gone", f"{AS_STORE}echo 'store: gone' >&2\nexit 7\n", "the program ended with status 7: store: gone"),
         ):
             self.tools.put(name, text).chmod(0o755)
             for sessions in (1, 2):

@@ -5,6 +5,8 @@ epoch of each is asked first, of one session; a run is right where its answers a
 session goes back.
 """
 
+from __future__ import annotations
+
 import itertools
 import json
 import os
@@ -17,6 +19,7 @@ from collections.abc import Callable
 from tests import soak
 from tests.cases import Case
 from tests.clusters import Json
+from tests.runs import zipped
 
 # The order of the writers, what they answered, and each question's answer at each epoch.
 Order = tuple[tuple[int, int], list[str], dict[int, dict[str, str]]]
@@ -103,7 +106,7 @@ class Race:
             return f"the writers answered {answers[:2]}"
         for session, lines in zip(range(2, 10), self.scripts[2:]):
             low = FIRST
-            for line, answer in zip(lines, answers[session], strict=True):
+            for line, answer in zipped(lines, answers[session]):
                 found = EPOCH.match(answer)
                 epoch = int(found[1]) if found else 0
                 if epoch < low or answer != at[epoch][line]:

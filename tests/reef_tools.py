@@ -2,6 +2,8 @@
 osdmaptool, each as it is run. Without it the tests that need them are not run.
 """
 
+from __future__ import annotations
+
 import os
 import pathlib
 import re

@@ -12,6 +12,8 @@ groups. At the end are lines that are refused: where nothing needs memory before
 that number whatever growth is refused.
 """
 
+from __future__ import annotations
+
 import json
 import os
 import pathlib

@@ -1,5 +1,7 @@
 """The archive of a release: who unpacks it needs neither the kit nor a proof for the first `df`."""
 
+from __future__ import annotations
+
 import os
 import pathlib
 import subprocess

@@ -11,6 +11,8 @@ with `arguments` says all itself: files, standard output, standard error, status
 as `filled` below reads them, and texts as `text_of` does.
 """
 
+from __future__ import annotations
+
 import dataclasses
 import json
 import pathlib

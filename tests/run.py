@@ -1,85 +1,42 @@
 #!/usr/bin/env python3
-"""Runs all tests of this folder over the built program, as `make runs` does.
+"""Runs all tests of this folder over the built program, as `make runs` does, or those of form, as `make form` does.
 
     tests/run.py [--total] [--table NAME] [--only TEXT] [--long] PROGRAM [STORE]
+    tests/run.py --form [--total] [--table NAME] [--only TEXT]
 
-PROGRAM is `osdmapd`, and STORE `osdmapstore`, whose tests are told as NOT RUN where it is not there.
+PROGRAM is `osdmapd`, and STORE `osdmapstore`, whose tests are told as NOT RUN where it is not there. Tests of form look
+at sources, pages, figures and types, and need no program.
 A line is put out for each table and for each other module of tests: how many runs it had, how many passed and how many
 were not run, and how long they took. A run is a row of a test, or a test without rows. What is being run is told on
 standard error meanwhile. The tests of the tools are run four at a time. Behind them come, one by one, those that fill
 the processors themselves or must be alone. Where runs have failed, their tests are named at the end, and the status is
-1.
+1. It is 2 where no test and no row has the text.
 """
+
+from __future__ import annotations
 
 import argparse
 import compileall
-import dataclasses
 import os
 import pathlib
+import queue
 import sys
 import threading
-import time
 import unittest
-from collections.abc import Callable, Iterable, Iterator
-from concurrent.futures import Future, ProcessPoolExecutor, as_completed
-from multiprocessing import get_context
+from collections.abc import Iterable, Iterator
+from concurrent.futures import ThreadPoolExecutor, as_completed
 from types import TracebackType
 from typing import Any
 
 TOP = pathlib.Path(__file__).resolve().parent.parent
 sys.path[:] = [str(TOP), *(path for path in sys.path if path != str(TOP / "tests"))]
 
-from tests.cases import NO_ROW, Case  # noqa: E402
+from tests.cases import Case  # noqa: E402
 from tests.runs import AT_ONCE  # noqa: E402
+from tests.workers import Outcome, Worker, cases_of  # noqa: E402
 
-
-@dataclasses.dataclass
-class Outcome:
-    """What came of a test: how many runs it had, what tells of those that failed, and why it was not run, if so."""
-
-    name: str
-    about: str
-    runs: int
-    failed: list[str]
-    not_run: str
-    seconds: float
-
-
-class Result(unittest.TestResult):
-    """What comes of one test, with the number of its rows, each of which is told when it is done."""
-
-    def __init__(self, tell: Callable[[str], None]) -> None:
-        super().__init__()
-        self.rows, self.tell = 0, tell
-
-    def addSubTest(self, test: unittest.TestCase, subtest: unittest.TestCase, err: Any) -> None:
-        """Takes a row that is done."""
-        super().addSubTest(test, subtest, err)
-        self.rows += 1
-        self.tell(str(subtest))
-
-
-def outcome(name: str, tell: Callable[[str], None] = lambda row: None) -> Outcome:
-    """What comes of a test."""
-    result, begin = Result(tell), time.monotonic()
-    test = unittest.defaultTestLoader.loadTestsFromName(name)
-    about = next((str(case.shortDescription()) for case in cases_of(test)), "")
-    test.run(result)
-    wrong = [*result.failures, *result.errors]
-    whole = sum(not hasattr(case, "test_case") for case, _ in wrong)
-    texts = ["\n    ".join([f"FAILED: {case}", *text.splitlines()]) for case, text in wrong]
-    not_run = result.skipped[0][1] if result.skipped else ""
-    runs = 0 if not_run else result.rows + whole or 1
-    return Outcome(name, about, runs, texts, not_run, time.monotonic() - begin)
-
-
-def cases_of(tests: unittest.TestSuite | unittest.TestCase) -> Iterator[unittest.TestCase]:
-    """Each test of a suite."""
-    if isinstance(tests, unittest.TestCase):
-        yield tests
-    else:
-        for test in tests:
-            yield from cases_of(test)
+# What the tests of form find in place of a program, so that none of them asks for one.
+NO_PROGRAM = "/nonexistent/osdmapd"
 
 
 def group_of(name: str) -> str:
@@ -94,7 +51,7 @@ class Shown:
     def __init__(self) -> None:
         self.now, self.done, self.is_terminal, self.ended = "", 0, sys.stderr.isatty(), threading.Event()
 
-    def __enter__(self) -> "Shown":
+    def __enter__(self) -> Shown:
         threading.Thread(target=self.tell_all, daemon=True).start()
         return self
 
@@ -128,7 +85,7 @@ class Summary:
     """What came of all tests, and how many of each group are still to come."""
 
     def __init__(self, names: Iterable[str], most: int, shown: Shown) -> None:
-        self.most, self.shown, self.passed, self.failed = most, shown, 0, 0
+        self.most, self.shown, self.passed, self.failed, self.told = most, shown, 0, 0, 0
         self.groups: dict[str, list[Outcome]] = {}
         self.wrong: dict[str, int] = {}
         self.left = [group_of(name) for name in names]
@@ -141,13 +98,14 @@ class Summary:
         if own.failed:
             self.wrong[own.name] = len(own.failed)
         if group not in self.left:
-            self.tell(group, [one for one in self.groups[group] if one.not_run != NO_ROW])
+            self.tell(group, [one for one in self.groups[group] if one.is_chosen])
 
     def tell(self, group: str, tests: list[Outcome]) -> None:
         """Tells what came of a group."""
         failed = [text for own in tests for text in own.failed]
         runs, not_run = sum(own.runs for own in tests), [own for own in tests if own.not_run]
         self.passed, self.failed = self.passed + runs - len(failed), self.failed + len(failed)
+        self.told += len(tests)
         if tests:
             lacking = f", {len(not_run)} NOT RUN" if not_run else ""
             seconds = sum(own.seconds for own in tests)
@@ -174,46 +132,77 @@ def chosen(tests: Iterable[Case], only: str) -> list[tuple[Case, str]]:
 
 
 def run_all(tests: list[tuple[Case, str]], summary: Summary, shown: Shown) -> None:
-    """Runs tests: some at a time those that bear it, and behind them the others one by one."""
-    beside = [test.id() for test, _ in tests if not getattr(test, "is_alone", False)]
-    with ProcessPoolExecutor(AT_ONCE, mp_context=get_context("spawn")) as pool:
-        begun: dict[Future[Outcome], str] = {pool.submit(outcome, name): name for name in beside}
+    """Runs tests, each in a process that is not this one: some at a time those that bear it, and behind them the others
+    one by one."""
+    workers = [Worker() for _ in range(AT_ONCE)]
+    free: queue.SimpleQueue[Worker] = queue.SimpleQueue()
+    going: dict[str, None] = {}
+
+    def beside(name: str) -> Outcome:
+        """What comes of a test beside others."""
+        worker, going[name] = free.get(), None
         try:
-            for future in as_completed(begun):
-                shown.row("; ".join(name for own, name in begun.items() if own.running()))
-                summary.take(future.result())
-        except BaseException:
-            pool.shutdown(wait=False, cancel_futures=True)
-            raise
-    for test, row in tests:
-        if getattr(test, "is_alone", False):
-            os.environ["ROW"] = row
-            shown.now = test.id()
-            summary.take(outcome(test.id(), shown.row))
+            return worker.outcome(name, "", lambda row: None)
+        finally:
+            del going[name]
+            free.put(worker)
+
+    for worker in workers:
+        free.put(worker)
+    pool = ThreadPoolExecutor(AT_ONCE)
+    try:
+        names = [test.id() for test, _ in tests if not getattr(test, "is_alone", False)]
+        for future in as_completed([pool.submit(beside, name) for name in names]):
+            shown.row("; ".join(list(going)))
+            summary.take(future.result())
+        for test, row in tests:
+            if getattr(test, "is_alone", False):
+                shown.now = test.id()
+                summary.take(workers[0].outcome(test.id(), row, shown.row))
+    finally:
+        pool.shutdown(wait=False, cancel_futures=True)
+        for worker in workers:
+            worker.end()
 
 
-def main() -> int:
-    """Runs what the command line chooses; the status."""
+def options_of() -> argparse.Namespace:
+    """What the command line says; it ends this where that means nothing."""
     parser = argparse.ArgumentParser(description=__doc__, formatter_class=argparse.RawDescriptionHelpFormatter)
-    parser.add_argument("program", type=pathlib.Path)
+    parser.add_argument("program", nargs="?", type=pathlib.Path)
     parser.add_argument("store", nargs="?", type=pathlib.Path, help="the program over a store")
+    parser.add_argument("--form", action="store_true", help="only the tests of form, which need no program")
     parser.add_argument("--long", action="store_true", help="also the tests that take minutes")
     parser.add_argument("--total", action="store_true", help="end with a line 'N passed, M failed'")
     parser.add_argument("--only", default="", help="only tests and rows whose name has this text")
     parser.add_argument("--table", action="append", help="only this table or module")
     parser.add_argument("--show", type=int, default=10, help="how many failed runs of a table are shown")
     options = parser.parse_args()
-    if not os.access(options.program, os.X_OK):
+    if (options.program is None) != options.form:
+        parser.error("give the program, or --form for the tests that need none")
+    if options.program and not os.access(options.program, os.X_OK):
         parser.error(f"there is no program at {options.program}: `make run` proves and builds it")
-    os.environ["OSDMAPD"] = str(options.program.resolve())
+    return options
+
+
+def set_variables(options: argparse.Namespace) -> None:
+    """Sets what tells the tests what they are run over."""
+    os.environ["OSDMAPD"] = NO_PROGRAM if options.form else str(options.program.resolve())
     if options.store:
         os.environ["OSDMAPSTORE"] = str(options.store.resolve())
     if options.long:
         os.environ["LONG"] = "1"
+
+
+def main() -> int:
+    """Runs what the command line chooses; the status."""
+    options = options_of()
+    set_variables(options)
     found: Any = [*cases_of(unittest.defaultTestLoader.discover(str(TOP / "tests"), "*.py", str(TOP)))]
+    found = [test for test in found if not options.form or getattr(test, "is_form", False)]
     unknown = set(options.table or ()) - {group_of(test.id()) for test in found}
     if unknown:
-        parser.error(f"there is no table or module {', '.join(sorted(unknown))}")
+        print(f"run.py: there is no table or module {', '.join(sorted(unknown))}", file=sys.stderr)
+        return 2
     tests = chosen((test for test in found if not options.table or group_of(test.id()) in options.table), options.only)
     # Else each command of the tools would compile them anew.
     compileall.compile_dir(TOP / "tools" / "rekhuso", quiet=2)
@@ -223,6 +212,9 @@ def main() -> int:
     print(*summary.end(), sep="\n", end="\n" if summary.wrong else "")
     if options.total:
         print(f"{summary.passed} passed, {summary.failed} failed")
+    if not summary.told:
+        print(f"run.py: no test and no row has {options.only!r} in its name", file=sys.stderr)
+        return 2
     return 1 if summary.failed else 0
 
 

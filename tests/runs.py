@@ -1,16 +1,41 @@
 """Runs of the program, and how each differs from what is wanted of it, byte by byte."""
 
+from __future__ import annotations
+
 import dataclasses
 import os
 import pathlib
 import subprocess
 import tempfile
-from collections.abc import Callable, Iterator, Sequence
+from collections.abc import Callable, Iterable, Iterator, Sequence
 from concurrent.futures import ThreadPoolExecutor
-from typing import Any
+from typing import Any, TypeVar, overload
 
 # So many runs go on at once, and each has so many seconds.
 AT_ONCE, SECONDS = 4, 300
+First = TypeVar("First")
+Second = TypeVar("Second")
+Third = TypeVar("Third")
+
+
+@overload
+def zipped(first: Iterable[First], second: Iterable[Second], /) -> Iterator[tuple[First, Second]]:
+    """Of two lists."""
+
+
+@overload
+def zipped(
+    first: Iterable[First], second: Iterable[Second], third: Iterable[Third], /
+) -> Iterator[tuple[First, Second, Third]]:
+    """Of three."""
+
+
+def zipped(*lists: Iterable[Any]) -> Iterator[tuple[Any, ...]]:
+    """The entries of lists side by side, as `zip` has them; a fault where the lists are not equally long."""
+    found = [list(own) for own in lists]
+    if len(set(map(len, found))) > 1:
+        raise ValueError(f"lists of {', '.join(str(len(own)) for own in found)} entries")
+    return zip(*found)
 
 
 @dataclasses.dataclass

@@ -3,6 +3,8 @@
 The schemas leave room for keys to come; here a key that they do not tell is a fault.
 """
 
+from __future__ import annotations
+
 import functools
 import json
 import re
@@ -109,6 +111,8 @@ def parts(schema: Any) -> Iterator[Any]:
 
 class Schemas(unittest.TestCase):
     """The schemas themselves; the tests of commands hold what these tell to them."""
+
+    is_form = True
 
     def test_commands(self) -> None:
         """Each command that has `--json` has a schema, and no other."""

@@ -3,6 +3,8 @@
 What a command tells of groups is compared with Ceph's up sets.
 """
 
+from __future__ import annotations
+
 import json
 import pathlib
 import xml.etree.ElementTree
@@ -190,7 +192,7 @@ class SeveralMaps(StockCase):
             (['{"new_items":[["9.0",[[1,2]]]]}'], 1, "23 UnknownPool"),
             (["--add-host", "new", "1,1"], 1, "new: of which device class? --class one of hdd, ssd"),
             (["{", "5"], 2, "error: "),
-            (["5"], 1, "5: No such file or directory"),
+            (["5"], 2, "5: No such file or directory"),
         ):
             with self.subTest(words=words):
                 _, error = self.ran("whatif", *files, *words, status=status)

@@ -7,6 +7,8 @@ balancer go in between. `faults` rebuilds from the answers the one order in whic
 order by one session, with each line put at the epoch that its answer carries, and compares the answers.
 """
 
+from __future__ import annotations
+
 import json
 import pathlib
 import random
@@ -14,12 +16,13 @@ import re
 import subprocess
 import tempfile
 from collections.abc import Callable, Iterable
+from typing import Union
 
 from tests.cases import Case
 from tests.clusters import Json
 
 # A line that one session is asked, and the place of what is to be compared, or what was answered.
-Line = tuple[str, int | str]
+Line = tuple[str, Union[int, str]]
 FIRST, OSDS, HOSTS = 1, 24, 8
 CLASSES, STRETCH = 2, 10
 # The kinds of the hosts; the root has the first.

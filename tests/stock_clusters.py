@@ -1,5 +1,7 @@
 """The commands of the tools over stock clusters: their buckets are of kind straw2, as clusters have them since 2016."""
 
+from __future__ import annotations
+
 import json
 import subprocess
 import xml.etree.ElementTree
@@ -136,7 +138,7 @@ class StockClusters(StockCase):
                 output, error = self.ran("import", *self.dumps(name), "--pools", words, status=1)
                 self.assertEqual(output, "", error)
                 self.assertStarts(error, "no pool ")
-        _, error = self.ran("import", *self.dumps(name), "--out", "/dev/null/maps", status=1)
+        _, error = self.ran("import", *self.dumps(name), "--out", "/dev/null/maps", status=2)
         self.assertEqual(error.splitlines()[-1], "/dev/null/maps: Not a directory")
 
     def test_weight_set(self) -> None:
@@ -249,7 +251,8 @@ class StockClusters(StockCase):
             ([], "no JSON object"),
         ):
             with self.subTest(told=told):
-                _, error = self.ran("import", *self.dumps(name), "--tree", self.tools.put("tree", tree), status=1)
+                path, status = self.tools.put("tree", tree), 1 if tree else 2
+                _, error = self.ran("import", *self.dumps(name), "--tree", path, status=status)
                 self.assertIn(told, error.splitlines()[0])
 
     def test_the_option(self) -> None:

@@ -5,6 +5,8 @@ than the sum, negative counts, OSDs that were removed. Their up sets are those o
 as it is, weights of 0 and negative counts with it, in the way of Ceph's mapper.c.
 """
 
+from __future__ import annotations
+
 import json
 import time
 
@@ -182,7 +184,7 @@ class StockDumps(DumpCase):
         self.assertNotEqual(self.output("df", *self.dumps("loop", own)), "")
 
     def test_other_kinds_of_values(self) -> None:
-        """Values that no monitor dumps end in lines and status 1."""
+        """Values that no monitor dumps end in lines and status 1, and what is no dump at all in a line and status 2."""
         for name, key, value in (
             ("items", "weight", "1"),
             ("items", "weight", 1.5),
@@ -215,7 +217,7 @@ class StockDumps(DumpCase):
             with self.subTest(text=text):
                 osd, crush = self.dumps("001-three-hosts")
                 for files in ((self.tools.put("x", text), crush), (osd, self.tools.put("x", text))):
-                    _, error = self.ran("import", *files, status=1)
+                    _, error = self.ran("import", *files, status=2)
                     self.assertEqual(len(error.splitlines()), 1, (text[:20], error[-300:]))
                     self.assertNotIn("Traceback", error, (text[:20], error[-300:]))
 

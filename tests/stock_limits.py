@@ -1,6 +1,8 @@
 """The limits of maps and changes with straw2 buckets and of those without, as `check` and `import` tell them beside the
 program."""
 
+from __future__ import annotations
+
 import json
 from collections.abc import Iterable
 from typing import Any

@@ -5,6 +5,8 @@ into the file. Each is one file, whole by sqlite3, and is opened by the program;
 the copy was begun, and none that was not put before it was done, each as a row in order.
 """
 
+from __future__ import annotations
+
 import pathlib
 import random
 import signal

@@ -7,6 +7,8 @@ answered by then is in what is left, and at most one more; the map is that of `o
 may be none yet, and is then begun.
 """
 
+from __future__ import annotations
+
 import dataclasses
 import pathlib
 import random

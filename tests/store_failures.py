@@ -5,6 +5,8 @@ What was answered `ok` is in the store afterwards; from the first change that wa
 look-ups go on; the run tells why in one line, and ends with status 6; and no run ends by a signal.
 """
 
+from __future__ import annotations
+
 import contextlib
 import dataclasses
 import errno
@@ -17,6 +19,7 @@ import subprocess
 import tempfile
 import unittest
 from collections.abc import Callable, Iterator, Mapping
+from typing import Optional
 
 from tests.cases import EXAMPLE, HERE
 from tests.live_sessions import Lines, limited
@@ -110,7 +113,7 @@ class Talk:
         )
         assert self.process.stdin and self.process.stdout
         self.to, self.lines = self.process.stdin, Lines(self.process.stdout.fileno())
-        self.head, self.pairs = self.lines.next(), list[tuple[str, str | None]]()
+        self.head, self.pairs = self.lines.next(), list[tuple[str, Optional[str]]]()
         self.epoch = int(self.head.split(" ")[1]) if self.head else 0
         self.is_live = self.head is not None and self.lines.next() == "session 1"
 

@@ -1,16 +1,15 @@
 """Files that the program is given as a store: what is none, what is damaged, what another program has written, and what
 sqlite3 reads of one."""
 
-import contextlib
+from __future__ import annotations
+
 import json
 import os
-import pathlib
 import random
 import re
 import shutil
 import sqlite3
 import subprocess
-import sys
 from collections.abc import Callable, Iterator
 from typing import Any, ClassVar
 

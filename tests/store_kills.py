@@ -8,6 +8,8 @@ of the same lines; and what sessions saw at an epoch is what `osdmapd` answers t
 opened. All is from a seed, but for what the machine is quick to do.
 """
 
+from __future__ import annotations
+
 import contextlib
 import dataclasses
 import json
@@ -23,6 +25,7 @@ from tests import soak
 from tests.cases import EXAMPLE
 from tests.clusters import Json
 from tests.live_sessions import Lines, limited
+from tests.runs import zipped
 from tests.soak import epoch_of, is_made
 from tests.store_failures import with_long_log
 from tests.stores import SECONDS, Done, StoreCase, copied, held, written_change
@@ -338,7 +341,7 @@ class Kills(StoreCase):
         *answers, dump = self.played(
             self.file("played", self.story.maps[before]), [line for line, _ in lines], *self.options
         )
-        for (line, wanted), answer in zip(lines, answers, strict=True):
+        for (line, wanted), answer in zipped(lines, answers):
             self.assertEqual(answer, wanted or f"ok {epoch_of(answer)} evals {answer.split()[-1]}", line)
         self.story.lines += [made[epoch][0] for epoch in range(before + 1, last + 1)]
         self.story.epoch, self.story.maps[last] = last, dump

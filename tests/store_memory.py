@@ -6,6 +6,8 @@ A change that finds no memory is answered 30 and is not made; the same line, put
 refused once makes the store fail. What was answered `ok` is in the store afterwards, and nothing else.
 """
 
+from __future__ import annotations
+
 import dataclasses
 import os
 import pathlib

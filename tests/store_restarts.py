@@ -2,6 +2,8 @@
 restarts, each run with as many as one may take. That waits for as many syncs, so it is run where LONG is set
 (`tests/run.py --long`)."""
 
+from __future__ import annotations
+
 import os
 
 from tests.cases import EXAMPLE

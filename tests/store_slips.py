@@ -1,6 +1,8 @@
 """Slips of an operator at a store: a file that was moved away from its log, a name that is too long, a store that is
 made twice. None loses a change, and each is told."""
 
+from __future__ import annotations
+
 from tests.cases import EXAMPLE
 from tests.store_failures import with_rows
 from tests.stores import Done, StoreCase, files_of, log_of

@@ -1,6 +1,8 @@
 """Rows of the tables once more, over a store that is begun with the map of the row: the program tells the epoch of that
 map, and then what `osdmapd` answers."""
 
+from __future__ import annotations
+
 import dataclasses
 import json
 import pathlib

@@ -1,6 +1,8 @@
 """The program `osdmapstore` and its store, as tests see them: runs of the program, what a store's file holds by
 Python's own sqlite3, and what a row of it is by its definition."""
 
+from __future__ import annotations
+
 import contextlib
 import dataclasses
 import os

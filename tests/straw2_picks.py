@@ -7,6 +7,8 @@ group, each over a bucket of its own; together they read each entry of the table
 read, once for each side.
 """
 
+from __future__ import annotations
+
 import collections
 from collections.abc import Iterator
 

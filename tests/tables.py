@@ -1,5 +1,7 @@
 """The tables of rows beside this file, each row answered byte by byte as it says (rows.py has their language)."""
 
+from __future__ import annotations
+
 import dataclasses
 from collections.abc import Iterator
 

@@ -1,5 +1,7 @@
 """The shell at a terminal, and what long commands tell there."""
 
+from __future__ import annotations
+
 import os
 import pathlib
 import pty
@@ -10,7 +12,7 @@ from unittest import mock
 
 from tests.cases import EXAMPLE
 from tests.clusters import CLUSTERS, copied
-from tests.tool_cases import ToolCase, Tools
+from tests.tool_cases import AS_MONITOR, ToolCase, Tools
 from tests.tool_errors import SECONDS
 
 
@@ -90,7 +92,7 @@ class Terminals(ToolCase):
     def test_long_commands(self) -> None:
         """A command that takes more than two seconds tells on a terminal what it does, in a line that goes before its
         output comes; elsewhere nothing is told."""
-        late = self.tools.put("late", f'#!/bin/sh\nsleep 3.5\nexec {self.tools.program} "$@"\n')
+        late = self.tools.put("late", f'{AS_MONITOR}sleep 3.5\nexec {self.tools.program} "$@"\n')
         late.chmod(0o755)
         words = Tools(late, self.tools.folder).words("df", EXAMPLE)
         terminal = Terminal(words, self.tools.folder)

@@ -1,6 +1,8 @@
 """What tests of the tools stand on: runs of their commands in a folder of each test's own, beside the program's
 answers."""
 
+from __future__ import annotations
+
 import json
 import os
 import pathlib
@@ -11,12 +13,18 @@ import tempfile
 from collections.abc import Iterable
 from typing import Any
 
+from rekhuso.version import VERSION
+
 from tests.cases import TOP, Case
 from tests.clusters import CLUSTERS, STOCK, Json, ceph_set, groups_of
+from tests.runs import zipped
 from tests.schemas import faults_of
 
 TOOLS = TOP / "tools" / "rekhuso"
 SECONDS = 120
+# What a script begins with that stands in a program's place: the tools ask its version first.
+SHELL = f'#!/bin/sh\n[ "$1" = --version ] && echo "{{}} {VERSION}" && exit\n'
+AS_MONITOR, AS_STORE = SHELL.format("osdmapd"), SHELL.format("osdmapstore")
 
 
 def without_names(error: str) -> str:
@@ -79,7 +87,7 @@ class Tools:
         """The answers for all groups, the epoch aside."""
         groups = groups_of(value)
         answers = self.answers(value, [f"up {group}" for group in groups], *options)
-        return {group: answer.split(" ", 3)[3] for group, answer in zip(groups, answers, strict=True)}
+        return {group: answer.split(" ", 3)[3] for group, answer in zipped(groups, answers)}
 
 
 class ToolCase(Case):

@@ -1,21 +1,25 @@
 """The commands of the tools at their edges: whatever comes, a command that cannot do its work ends with one line and
 its status.
 
-A status is 0 where the work is done, 1 where something was refused or has failed, and 2 where the command was used
-wrongly.
+A status is 0 where the work is done, 1 where something was refused, and 2 where the command was used wrongly, or a file
+cannot be read or written, or the program is not there.
 """
 
+from __future__ import annotations
+
 import os
+import re
 import subprocess
 import sys
 from collections.abc import Sequence
 
 from rekhuso.command_line import parser
 from rekhuso.commands import COMMANDS as COMMAND_NAMES
+from rekhuso.version import VERSION
 
 from tests.cases import EXAMPLE
 from tests.clusters import CLUSTERS, STOCK, copied
-from tests.tool_cases import TOOLS, ToolCase, Tools
+from tests.tool_cases import AS_MONITOR, TOOLS, ToolCase, Tools
 
 SECONDS = 30
 
@@ -68,23 +72,23 @@ class ToolErrors(ToolCase):
                     ]
                     status = int(lines.pop()) if sink.startswith("|") else done.returncode
                     # 141: ended by SIGPIPE, as any tool before `| head`.
-                    wanted = (1, [f"output: {told}"]) if told else (141, [])
+                    wanted = (2, [f"output: {told}"]) if told else (141, [])
                     self.assertEqual((status, lines), wanted, (words, sink, status, done.stderr[-300:]))
 
     def test_files_that_cannot_be_written(self) -> None:
         """A file beside the output that cannot be written is told by its path."""
         found = self.tools.run("whatif", EXAMPLE, "--out", "3", "--picture", "no/flows.svg")
-        self.is_told(found, 1, "no/flows.svg: No such file or directory", "picture")
+        self.is_told(found, 2, "no/flows.svg: No such file or directory", "picture")
         self.is_told(
             self.tools.run("whatif", EXAMPLE, "--out", "3", "--picture", "/dev/full"),
-            1,
+            2,
             "/dev/full: No space left on device",
             "picture",
         )
         for path, told in (("no/names", "No such file or directory"), ("/dev/full", "No space left on device")):
             with self.subTest(told=told):
                 status, _, error = self.tools.run("import", *self.tools.dumps("001-built"), "--names", path)
-                self.assertEqual(status, 1, (status, error))
+                self.assertEqual(status, 2, (status, error))
                 self.assertEqual(error.splitlines()[-1], f"{path}: {told}", (status, error))
 
     def test_dumps_in_place_of_others(self) -> None:
@@ -94,17 +98,17 @@ class ToolErrors(ToolCase):
         for words in (["import"], ["import", "--check"], ["df"], ["plan"], ["whatif", "--out", "3"]):
             with self.subTest(words=words):
                 told = f"the dumps are swapped: {crush} is the CRUSH dump, and {osd} the OSD dump, which comes first"
-                self.is_told(self.tools.run(words[0], crush, osd, *words[1:]), 1, told, words)
+                self.is_told(self.tools.run(words[0], crush, osd, *words[1:]), 2, told, words)
         for path, kind in ((osd, "an OSD"), (crush, "a CRUSH")):
             with self.subTest(kind=kind):
-                self.is_told(self.tools.run("check", path), 1, f"{path}: this is {kind} dump: use import", kind)
+                self.is_told(self.tools.run("check", path), 2, f"{path}: this is {kind} dump: use import", kind)
                 told = f"{path}: this is {kind} dump, and no map: most commands take both dumps, and import makes a map"
                 for words in (["df"], ["net"], ["plan"], ["shell"], ["whatif", "--out", "3"], ["explain", "1.0"]):
-                    self.is_told(self.tools.run(words[0], path, *words[1:], stdin=""), 1, told, words)
+                    self.is_told(self.tools.run(words[0], path, *words[1:], stdin=""), 2, told, words)
         for files in ([EXAMPLE, crush], [osd, EXAMPLE]):
             with self.subTest(files=files):
                 told = f"{EXAMPLE}: this is a map, and no dump: give both dumps, or one map alone"
-                self.is_told(self.tools.run("df", *files), 1, told, files)
+                self.is_told(self.tools.run("df", *files), 2, told, files)
         for files in ([osd], [osd, crush, osd]):
             with self.subTest():
                 self.is_told(self.tools.run("diff", *files), 2, "diff takes two maps, or the two dumps of each", files)
@@ -126,20 +130,21 @@ class ToolErrors(ToolCase):
         osd, crush = self.tools.dumps("001-built")
         for words in ([osd, "crash"], [osd, crush, "crash"]):
             with self.subTest(words=words):
-                self.is_told(self.tools.run("whatif", *words, "--out", "3"), 1, "crash: No such file", words)
-        for text in ("[]", "{", ""):
+                self.is_told(self.tools.run("whatif", *words, "--out", "3"), 2, "crash: No such file", words)
+        for text, told in (("[]", "no change: no JSON"), ("{", "no change: no JSON"), ("", "empty")):
             with self.subTest(text=text):
                 path = self.tools.put("none", text)
-                self.is_told(self.tools.run("whatif", osd, crush, path), 1, f"{path}: no change: no JSON", text)
+                self.is_told(self.tools.run("whatif", osd, crush, path), 2, f"{path}: {told}", text)
 
     def test_dumps_of_another_kind(self) -> None:
-        """A report of a cluster, and the pools of a release before Luminous, are told as what they are."""
+        """A report of a cluster in place of a map, and the pools of a release before Luminous, are told as what they
+        are."""
         own = CLUSTERS["001-built"]
         report = self.tools.put("report", {"osdmap": own["osd_dump"], "crushmap": own["crush_dump"], "health": {}})
         told = "report: this is what `ceph report` prints, with the OSD dump at .osdmap and the CRUSH dump at .crushmap"
-        for words in (["import", report, report], ["check", report], ["df", report], ["whatif", report, "--out", "3"]):
+        for words in (["check", report], ["net", report]):
             with self.subTest(words=words):
-                self.is_told(self.tools.run(*words), 1, told, words)
+                self.is_told(self.tools.run(*words), 2, told, words)
         osd = copied(STOCK["001-three-hosts"]["osd_dump"])
         for pool in osd["pools"]:
             pool["crush_ruleset"] = pool.pop("crush_rule")
@@ -190,9 +195,10 @@ class ToolErrors(ToolCase):
         for text, told in forms:
             for words in (["df"], ["whatif", "--out", "3"], ["explain", "1.0"], ["picture"], ["report"]):
                 found = self.tools.run(*over_example(words), "--names", self.tools.put("names", text))
-                self.is_told(found, 1, f"{self.tools.folder / 'names'}: {told}", (words, text))
+                status = 2 if told.startswith("no JSON") else 1
+                self.is_told(found, status, f"{self.tools.folder / 'names'}: {told}", (words, text))
         (self.tools.folder / "bytes").write_bytes(b"\xff")
-        self.is_told(self.tools.run("df", EXAMPLE, "--names", "bytes"), 1, "bytes: no UTF-8", "bytes")
+        self.is_told(self.tools.run("df", EXAMPLE, "--names", "bytes"), 2, "bytes: no UTF-8", "bytes")
 
     def test_words_of_another_form(self) -> None:
         """A word that is no number, group or change where one is asked for is an error of use."""
@@ -268,11 +274,11 @@ class ToolErrors(ToolCase):
     def test_named_programs(self) -> None:
         """A variable names the program where no option does."""
         words = [sys.executable, "-B", str(TOOLS), "check", str(EXAMPLE)]
-        for name, status in ((str(self.tools.program), 0), ("nowhere", 1)):
+        for name, status in ((str(self.tools.program), 0), ("nowhere", 2)):
             with self.subTest(name=name):
                 own = os.environ | {"REKHUSO_PROGRAM": name}
                 done = subprocess.run(words, env=own, capture_output=True, text=True, timeout=SECONDS, check=False)
-                self.assertEqual((done.returncode, "nowhere: no program" in done.stderr), (status, status == 1))
+                self.assertEqual((done.returncode, "nowhere: no program" in done.stderr), (status, status == 2))
 
     def test_help(self) -> None:
         """The help of a command keeps the paragraphs of its description, and ends with an example that the command
@@ -283,7 +289,7 @@ class ToolErrors(ToolCase):
                 self.assertIn(f"\n\n`{command}`: ", told)
                 _, example = told.split("\n\nfor example:\n\n    rekhuso ")
                 self.assertStarts(example, f"{command} ")
-                parser((command,)).parse_args(example.split(" > ")[0].split())
+                parser((command,)).parse_args(re.split(" [>|] ", example)[0].split())
         self.assertIn("\n\nComments above the commands", self.output("plan", "--help"))
 
     def test_what_is_imported(self) -> None:
@@ -303,33 +309,59 @@ class ToolErrors(ToolCase):
                 self.assertEqual(done.stdout.splitlines()[-1].split(), [own + name for name in wanted], done.stderr)
         for word in ("nothing", "--help"):
             told = "".join(self.tools.run(word)[1:])
-            for name in ("import", "check", "plan", "hold", "release", "history"):
+            for name in ("import", "check", "plan", "hold", "release", "drain", "next", "history"):
                 self.assertIn(name, told)
 
     def test_programs_that_are_none(self) -> None:
         """A program that is no program, does not start, is not this one, or has gone, is told in one line."""
         for name, text in (
             ("text", "no program\n"),
-            ("other", "#!/bin/sh\nexec yes\n"),
-            ("silent", "#!/bin/sh\nexit 7\n"),
-            ("gone", "#!/bin/sh\necho session 1\nread line\nkill -9 $$\n"),
+            ("other", f"{AS_MONITOR}exec yes\n"),
+            ("endless", "#!/bin/sh\nexec yes\n"),
+            ("older", "#!/bin/sh\necho osdmapd 0.1.0\n"),
+            ("silent", f"{AS_MONITOR}exit 7\n"),
+            ("gone", f"{AS_MONITOR}echo session 1\nread line\nkill -9 $$\n"),
         ):
             with self.subTest(name=name):
                 self.tools.put(name, text).chmod(0o755)
         other = Tools(self.tools.program, self.tools.folder)
-        for name in ("nowhere", ".", "text", "other", "silent", "gone"):
+        for name in ("nowhere", ".", "text", "other", "endless", "older", "silent", "gone"):
             with self.subTest(name=name):
                 other.program = self.tools.folder / name
                 for words in (["df", EXAMPLE], ["check", EXAMPLE], ["plan", EXAMPLE]):
-                    self.is_told(other.run(*words), 1, "program", (name, words))
-        self.is_told(other.run("shell", EXAMPLE, stdin="epoch\nepoch\n"), 1, "program", "shell")
+                    self.is_told(other.run(*words), 2, "program", (name, words))
+        self.is_told(other.run("shell", EXAMPLE, stdin="epoch\nepoch\n"), 2, "program", "shell")
+        other.program = self.tools.folder / "older"
+        told = f"--version tells 'osdmapd 0.1.0', and these tools want 'osdmapd {VERSION}'"
+        self.is_told(other.run("df", EXAMPLE), 2, f"{other.program}: another program: {told}", "older")
+
+    def test_answers_of_another_program(self) -> None:
+        """A program whose answers are not those of the questions is told as another: of another group or OSD, another
+        epoch, or another form."""
+        other = Tools(self.tools.program, self.tools.folder)
+        for answer in (
+            "up 1 1.1 [0,0,0] 0",
+            "up 2 $2 [0,0,0] 0",
+            "up $2 [0,0,0] 0",
+            "up 1 $2 [0,0,x] 0",
+            "up 1 $2 [0,0,0]",
+            "up one $2 [0,0,0] 0",
+            "count 1 $2 3",
+        ):
+            script = f'while read -r word group; do set -- "$word" "$group"; echo "{answer}"; done'
+            other.program = self.tools.put("other", f"{AS_MONITOR}echo session 1\n{script}\n")
+            other.program.chmod(0o755)
+            for words in (["df", EXAMPLE], ["whatif", EXAMPLE, "--out", "3"], ["explain", EXAMPLE, "1.0"]):
+                with self.subTest(answer=answer, words=words[0]):
+                    self.is_told(other.run(*words), 2, "another program: to ", words)
 
     def test_standard_input_without_a_text(self) -> None:
         """Standard input that is closed, empty or no UTF-8 is told, and a shell without input has nothing to do."""
         for words, end, status, told in (
-            ("df -", "<&-", 1, "refused: BadJson"),
-            ("df -", "</dev/null", 1, "refused: BadJson"),
-            ("df -", "< <(printf '\\xff')", 1, "-: no UTF-8"),
+            ("df -", "<&-", 2, "standard input: empty"),
+            ("df -", "</dev/null", 2, "standard input: empty"),
+            ("df -", "< <(printf '\\xff')", 2, "standard input: no UTF-8"),
+            ("df -", "< <(printf '{')", 1, "refused: BadJson"),
             (f"shell {EXAMPLE}", "<&-", 0, None),
         ):
             with self.subTest(words=words):
@@ -363,7 +395,8 @@ class ToolErrors(ToolCase):
             words, input=b"\n".join(lines), capture_output=True, timeout=SECONDS, check=False, cwd=self.tools.folder
         )
         answers = done.stdout.splitlines()
-        self.assertEqual((done.returncode, done.stderr, len(answers)), (0, b"", len(lines)))
+        self.assertEqual((done.returncode, len(answers)), (2, len(lines)))
+        self.assertEqual([line.split(b":")[0] for line in done.stderr.splitlines()], [b"save"] * 2)
         self.assertStarts(answers[0], b"err ")
         self.assertStarts(answers[4], b"err 10 ")
         self.assertEqual(answers[5], answers[7])

@@ -1,6 +1,8 @@
 """What the commands of the tools tell of a map, beside what is reckoned from the program's answers or told by Ceph's
 tools."""
 
+from __future__ import annotations
+
 import html
 import json
 import os
@@ -232,7 +234,7 @@ class ToolOutput(ToolCase):
     def test_help(self) -> None:
         """Every argument of every command has its help, and each form of `plan` its line of usage."""
         commands = re.findall("^    ([a-z]+) ", self.output("--help"), re.MULTILINE)
-        self.assertEqual(len(commands), 15)
+        self.assertEqual(len(commands), 19)
         for command in commands:
             usage, _, *parts = self.output(command, "--help").split("\n\n")
             listed = [

@@ -1,16 +1,18 @@
 """The limits of stock clusters: each at its edge and one past it, in maps and in changes, under `--stock`; and that
 without it the same maps are refused."""
 
+from __future__ import annotations
+
 import json
 import pathlib
 import subprocess
 import tempfile
 from collections.abc import Callable, Iterable, Iterator, Sequence
-from typing import Any
+from typing import Any, Optional
 
 from tests.cases import Case, RowCase
 from tests.clusters import Json
-from tests.runs import Check
+from tests.runs import Check, zipped
 
 SECONDS = 120
 GROUPS, TOTAL, ENTRIES, ITEMS, BUCKETS, POOLS, RULES = 65_536, 1_048_576, 1_048_576, 4_096, 4_096, 256, 256
@@ -80,7 +82,7 @@ def chains(count: int) -> list[Json]:
     return [bucket(-1, root), *made]
 
 
-Limited = Iterator[tuple[str, Json, str | None, str | None]]
+Limited = Iterator[tuple[str, Json, Optional[str], Optional[str]]]
 
 
 def osd_maps() -> Limited:
@@ -303,7 +305,7 @@ class WideLimits(Case):
         """Asks that lines over a map are answered so."""
         output, error = run(self.program, value, lines, words)
         self.assertEqual(error, "")
-        for line, answer, wanted in zip(lines, output, expected, strict=True):
+        for line, answer, wanted in zipped(lines, output, expected):
             self.assertEqual(answer, wanted, line[:100])
 
     def accepted(

@@ -1,5 +1,7 @@
 """What `tools/wrong_bodies.py` makes of what a prover says of wrong bodies; the prover is a script of this test."""
 
+from __future__ import annotations
+
 import os
 import pathlib
 import shutil
@@ -29,6 +31,8 @@ SOURCE = "fn low right\nfn high low\nfn alone right too\n"
 
 class WrongBodies(Case):
     """The tool over a crate of three functions, of which one calls another."""
+
+    is_form = True
 
     def setUp(self) -> None:
         """Makes the crate, and a kit with such a prover."""

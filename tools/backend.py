@@ -5,7 +5,11 @@ for all. So two builds are the same bytes, and nothing that an earlier build has
 give another time.
 """
 
-from __future__ import annotations
+import sys
+
+# This file has no word that an older Python does not read, so that it comes to the sentence.
+if sys.version_info < (3, 9):
+    sys.exit("rekhuso needs Python 3.9 or later, and this is Python %d.%d.%d" % tuple(sys.version_info[:3]))
 
 import ast
 import base64
@@ -15,11 +19,10 @@ import io
 import os
 import pathlib
 import re
-import sys
 import tarfile
 import time
 import zipfile
-from typing import Any
+from typing import Any, Optional
 
 TOP = pathlib.Path(__file__).resolve().parent
 PACKAGE = TOP / "rekhuso"
@@ -34,7 +37,8 @@ def tables() -> dict[str, dict[str, Any]]:
     found: dict[str, dict[str, Any]] = {"": {}}
     table, lines = "", iter((TOP / "pyproject.toml").read_text(encoding="utf-8").splitlines())
     for line in lines:
-        if head := re.fullmatch(r"\[(.*)\]", line):
+        head = re.fullmatch(r"\[(.*)\]", line)
+        if head:
             table = head[1]
             found[table] = {}
         elif "=" in line:
@@ -47,7 +51,7 @@ def tables() -> dict[str, dict[str, Any]]:
 
 def version() -> str:
     """The version of the package."""
-    found = re.search(r'^__version__ = "(.*)"$', (PACKAGE / "__init__.py").read_text(encoding="utf-8"), re.MULTILINE)
+    found = re.search(r'^VERSION = "(.*)"$', (PACKAGE / "version.py").read_text(encoding="utf-8"), re.MULTILINE)
     assert found is not None, "the package tells its version"
     return found[1]
 
@@ -168,12 +172,14 @@ def get_requires_for_build_sdist(config_settings: object = None) -> list[str]:
     return []
 
 
-def build_wheel(wheel_directory: str, config_settings: object = None, metadata_directory: str | None = None) -> str:
+def build_wheel(wheel_directory: str, config_settings: object = None, metadata_directory: Optional[str] = None) -> str:
     """Writes the wheel into a folder, and tells its name."""
     return put_wheel(wheel_directory, sources())
 
 
-def build_editable(wheel_directory: str, config_settings: object = None, metadata_directory: str | None = None) -> str:
+def build_editable(
+    wheel_directory: str, config_settings: object = None, metadata_directory: Optional[str] = None
+) -> str:
     """Writes a wheel into a folder that leads to the files of this folder, and tells its name."""
     return put_wheel(wheel_directory, {"rekhuso.pth": f"{TOP}\n".encode()})
 

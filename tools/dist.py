@@ -9,6 +9,8 @@ the commit, a tree with changes that are not committed, and programs that tell a
 archives of the same things are the same bytes.
 """
 
+from __future__ import annotations
+
 import gzip
 import hashlib
 import io

@@ -5,10 +5,39 @@ pools, weights, and what a Ceph monitor does with them; `plans/` what the balanc
 program's maps, sessions and answers; `output/` tables, JSON forms, pictures, scripts and the page.
 """
 
-from .faults import Closed, Fault, Refused, Unopened
-from .program.answers import Left, Made, Moved, Up
-from .program.monitor import Monitor
-from .program.session import Session
+import sys
+
+# This file and __main__.py have no word that an older Python does not read, so that it comes to the sentence.
+if sys.version_info < (3, 9):
+    OLDER = "rekhuso needs Python 3.9 or later, and this is Python %d.%d.%d" % tuple(sys.version_info[:3])
+    if sys.argv[:1] == ["-m"]:
+        sys.stderr.write(OLDER + "\n")
+        sys.exit(2)
+    raise ImportError(OLDER)
+
+from .version import VERSION as __version__
+
+TYPE_CHECKING = False
+if TYPE_CHECKING:
+    from .faults import Closed, Fault, Refused, Unopened
+    from .program.answers import Left, Made, Moved, Up
+    from .program.monitor import Monitor
+    from .program.session import Session
 
 __all__ = ["Closed", "Fault", "Left", "Made", "Monitor", "Moved", "Refused", "Session", "Unopened", "Up", "__version__"]
-__version__ = "0.2.0"
+# The module of each name; they come in once they are asked for, so that a command soon begins.
+PLACES = {
+    **dict.fromkeys(("Closed", "Fault", "Refused", "Unopened"), "faults"),
+    **dict.fromkeys(("Left", "Made", "Moved", "Up"), "program.answers"),
+    "Monitor": "program.monitor",
+    "Session": "program.session",
+}
+
+
+def __getattr__(name: str) -> object:
+    """What the package has by a name."""
+    import importlib
+
+    if name not in PLACES:
+        raise AttributeError(f"module {__name__!r} has no attribute {name!r}")
+    return getattr(importlib.import_module(f".{PLACES[name]}", __name__), name)

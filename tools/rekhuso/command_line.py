@@ -1,8 +1,10 @@
 """The command line: one parser with a subcommand for each module that has `add_to` and `work`, and what a command ends
 with.
 
-Status 0: the work is done. Status 1: something was refused or has failed. Status 2: the command was used wrongly.
-Status 143 or 129: the command was ended from outside.
+Status 0: the work is done. Status 1: no; something was refused. Status 2: the command was used wrongly, a file cannot
+be read or written, or the program is not there. Status 3: too little was told to say anything. Status 10 and 11 are of
+`next`. Status 70: a defect of the tools. Status 143 or 129: the command was ended from outside. Ctrl-C ends it as the
+signal ends any program, so that the loop of a shell ends too.
 """
 
 from __future__ import annotations
@@ -21,12 +23,14 @@ from typing import NoReturn
 from . import __version__
 from .commands import COMMANDS, EXAMPLES, module_of
 from .commands.arguments import Parser, group_options
-from .faults import Fault, Misuse
+from .faults import Fault, Misuse, Trouble
 from .progress import PROGRESS
-from .terminal import shown
+from .terminal import named_output, quiet_errors, shown
 
 # What ends a command from outside.
 ENDING = (signal.SIGTERM, signal.SIGHUP)
+# The status of a defect (`EX_SOFTWARE` of sysexits.h).
+DEFECT = 70
 
 
 def asked_commands(words: list[str]) -> tuple[str, ...]:
@@ -67,9 +71,10 @@ def set_streams() -> None:
     are closed are empty. On a terminal they show each sign. A fault where the output is closed.
     """
     sys.stdin = sys.stdin or open(os.devnull, encoding="utf-8")
-    sys.stderr = sys.stderr or open(os.devnull, "w", encoding="utf-8")
+    sys.stderr = quiet_errors(sys.stderr or open(os.devnull, "w", encoding="utf-8"))
     if sys.stdout is None:
-        raise Fault("output: closed")
+        raise Trouble("output: closed")
+    sys.stdout = named_output(sys.stdout)
     for stream, errors in ((sys.stdin, "strict"), (sys.stdout, "backslashreplace"), (sys.stderr, "backslashreplace")):
         if isinstance(stream, io.TextIOWrapper):
             stream.reconfigure(encoding="utf-8", errors=errors)
@@ -87,14 +92,27 @@ def put_out() -> None:
         raise
 
 
-def end_by_pipe() -> int:
-    """Ends this as a program ends whose output nobody reads any more: by the signal of it, with nothing said. The
-    status that a shell then tells, where the signal is held back.
+def end_by(number: signal.Signals) -> int:
+    """Ends this as a signal ends any program: what still waits to be put out is dropped. The status that a shell then
+    tells, where the signal is held back.
     """
-    os.dup2(os.open(os.devnull, os.O_WRONLY), sys.stdout.fileno())
-    signal.signal(signal.SIGPIPE, signal.SIG_DFL)
-    signal.raise_signal(signal.SIGPIPE)
-    return 128 + signal.SIGPIPE
+    with contextlib.suppress(OSError, ValueError, AttributeError):
+        os.dup2(os.open(os.devnull, os.O_WRONLY), sys.stdout.fileno())
+    signal.signal(number, signal.SIG_DFL)
+    signal.raise_signal(number)
+    return 128 + number
+
+
+def defect_line(fault: BaseException) -> str:
+    """What is told of a fault that nobody foresaw: what it is and where, and the versions."""
+    at, where, own = fault.__traceback__, "", os.path.dirname(__file__)
+    while at is not None:
+        file = at.tb_frame.f_code.co_filename
+        where = f" at {os.path.relpath(file, own)}:{at.tb_lineno}" if file.startswith(own) else where
+        at = at.tb_next
+    versions = f"rekhuso {__version__}, Python {sys.version.split()[0]}"
+    text = " ".join(str(fault).split())[:200]
+    return f"a defect of the tools ({versions}): {type(fault).__name__}{where}: {text}"
 
 
 class Ended(BaseException):
@@ -110,6 +128,8 @@ def end_by_signal(number: int, _: FrameType | None) -> NoReturn:
 
 def set_signals() -> None:
     """Has the command end in order by those signals that are not held back."""
+    if signal.getsignal(signal.SIGINT) is signal.SIG_DFL:
+        signal.signal(signal.SIGINT, signal.default_int_handler)
     for number in ENDING:
         if signal.getsignal(number) is signal.SIG_DFL:
             signal.signal(number, end_by_signal)
@@ -119,10 +139,9 @@ def run() -> int:
     """Does what the words of the command line ask for, and tells the status. Faults and OSError go on to who asked."""
     try:
         options = parser(asked_commands(sys.argv[1:])).parse_args()
-        if sys.stderr.isatty() and options.command != "shell":
+        if sys.stderr.isatty() and options.command != "shell" and os.environ.get("TERM") != "dumb":
             PROGRESS.begin(options.command)
-        options.work(options)
-        status = 0
+        status = int(options.work(options) or 0)
     except SystemExit as end:  # Of the parser: help, the version, or an error of use that it has told.
         status = int(end.code or 0)
     except Misuse as fault:
@@ -133,26 +152,38 @@ def run() -> int:
     return status
 
 
+def done() -> tuple[list[str], int]:
+    """Does the work: what is wrong, in lines, and the status."""
+    try:
+        set_signals()
+        set_streams()
+        return [], run()
+    except Fault as fault:
+        return fault.lines, fault.status
+    except Ended as end:
+        return [], 128 + int(end.args[0])
+    except BrokenPipeError:
+        return [], end_by(signal.SIGPIPE)
+    except OSError as fault:
+        return [": ".join([*([str(fault.filename)] if fault.filename else []), fault.strerror or str(fault)])], 2
+    except MemoryError:
+        return ["out of memory"], 2
+    except Exception as fault:
+        return [defect_line(fault)], DEFECT
+
+
 def main() -> int:
     """Runs one command: its status, and where that is not 0 what is wrong on standard error."""
     # A command soon ends, and needs what it has made until then.
     gc.disable()
     try:
-        set_signals()
-        set_streams()
-        return run()
-    except Fault as fault:
-        lines, status = fault.lines, fault.status
+        lines, status = done()
+        if lines:
+            print("\n".join(lines), file=sys.stderr)
+        with contextlib.suppress(OSError, AttributeError):
+            put_out()
+        return status
     except KeyboardInterrupt:
-        lines, status = ["interrupted"], 1
-    except Ended as end:
-        return 128 + int(end.args[0])
-    except BrokenPipeError:
-        return end_by_pipe()
-    except OSError as fault:
-        lines, status = [f"{fault.filename or 'output'}: {fault.strerror}"], 1
-    with contextlib.suppress(BrokenPipeError):
-        print("\n".join(lines), file=sys.stderr)
-    with contextlib.suppress(OSError, AttributeError):
-        put_out()
-    return status
+        signal.signal(signal.SIGINT, signal.SIG_IGN)
+        print("interrupted", file=sys.stderr, flush=True)
+        return end_by(signal.SIGINT)

@@ -1,4 +1,4 @@
-"""Why a command ends without what was asked for."""
+"""Why a command ends without what was asked for, and the status of each: 1 is no, 2 that nothing can be said."""
 
 from __future__ import annotations
 
@@ -14,13 +14,25 @@ class Fault(Exception):
         self.lines = list(lines)
 
 
-class Misuse(Fault):
-    """A command used wrongly: words that mean nothing, whatever the files say."""
+class Trouble(Fault):
+    """What keeps a command from its work, whatever the answer would be: a file that cannot be read or written, or is
+    another than was asked for; a program that is not there, or is another.
+    """
 
     status = 2
 
 
-class Closed(Fault):
+class Misuse(Trouble):
+    """A command used wrongly: words that mean nothing, whatever the files say."""
+
+
+class Untold(Fault):
+    """Too little is told to say anything."""
+
+    status = 3
+
+
+class Closed(Trouble):
     """A question to a monitor that was closed, or whose program has gone."""
 
     def __init__(self) -> None:
@@ -37,7 +49,7 @@ class Refused(Fault):
         self.name, self.number = name, number
 
 
-class Unopened(Fault):
+class Unopened(Trouble):
     """A store that is not begun or opened: its path, and the reason in the words of the program."""
 
     def __init__(self, path: str, reason: str) -> None:

@@ -15,10 +15,16 @@ STATUS = """.SH EXIT STATUS
 The work is done.
 .TP
 1
-Something was refused or has failed.
+No: something was refused.
 .TP
 2
-The command was used wrongly.
+The command was used wrongly, a file cannot be read or written, or the program is not there.
+.TP
+3
+Too little was told to say anything.
+.TP
+70
+A defect of the tools.
 .TP
 143, 129
 The command was ended from outside, by SIGTERM or SIGHUP.

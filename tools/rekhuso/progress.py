@@ -4,6 +4,7 @@ takes the place of.
 
 from __future__ import annotations
 
+import contextlib
 import io
 import os
 import sys
@@ -15,6 +16,14 @@ from .terminal import Shown
 
 # Seconds until a command is a long one, and between two looks at what it does.
 LONG, TICK = 2.0, 0.5
+
+
+def columns() -> int:
+    """So many signs have room in a line of the terminal."""
+    try:
+        return os.get_terminal_size(2).columns or 80
+    except OSError:
+        return 80
 
 
 class Progress:
@@ -38,12 +47,14 @@ class Progress:
             seconds = time.monotonic() - self.since
             if seconds >= LONG:
                 with self.lock:
-                    self.put(f"\r{self.command}: {self.words or 'at work'}, {seconds:.0f} s\x1b[K")
+                    line = f"{self.command}: {self.words or 'at work'}, {seconds:.0f} s"
+                    self.put(f"\r{line[: columns() - 1]}\x1b[K")
                     self.is_shown = True
 
     def put(self, text: str) -> None:
-        """Puts text on the terminal, past all that holds output back."""
-        os.write(2, text.encode())
+        """Puts text on the terminal, past all that holds output back; nothing where the terminal is gone."""
+        with contextlib.suppress(OSError):
+            os.write(2, text.encode())
 
     def erase(self) -> None:
         """Takes the line away, where it stands there."""

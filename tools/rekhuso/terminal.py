@@ -1,11 +1,15 @@
-"""What stands on a terminal: a sign that a terminal would obey, as a name may have it, is shown and not sent."""
+"""Standard streams: what cannot be put out is told as that. On a terminal a sign that it would obey, as a name may have
+it, is shown and not sent.
+"""
 
 from __future__ import annotations
 
 import io
 import re
-from typing import TextIO
+from typing import Any, TextIO
 
+# Streams in whose place others stand.
+KEPT: list[TextIO] = []
 # Where a name would end its line.
 BREAKS = re.compile("[\n\r\v\f\x1c-\x1e\x85\u2028\u2029]")
 
@@ -38,3 +42,46 @@ def shown(stream: TextIO) -> TextIO:
         return stream
     by_line, errors = stream.line_buffering, stream.errors
     return Shown(stream.detach(), encoding="utf-8", errors=errors, line_buffering=by_line)
+
+
+class Named(io.FileIO):
+    """Standard output, whose faults say that they are of it."""
+
+    def write(self, data: Any) -> int:
+        """Writes bytes. OSError with the name of the output where it cannot."""
+        try:
+            return super().write(data)
+        except OSError as fault:
+            raise OSError(fault.errno, fault.strerror, "output") from None
+
+
+class Quiet(io.FileIO):
+    """Standard error: where it cannot be written nothing is told, and what is put out is whole all the same."""
+
+    def write(self, data: Any) -> int:
+        """Writes bytes, or drops them."""
+        try:
+            return super().write(data)
+        except OSError:
+            return len(data)
+
+
+def over(stream: TextIO, kind: type[io.FileIO]) -> TextIO:
+    """A stream in place of another over the same file, by a kind of files; the other one where it has no file."""
+    if not isinstance(stream, io.TextIOWrapper):
+        return stream
+    by_line, errors = stream.line_buffering, stream.errors
+    # The other stream stays open, as the file is also its own.
+    KEPT.append(stream)
+    raw = kind(stream.fileno(), "w", closefd=False)
+    return io.TextIOWrapper(io.BufferedWriter(raw), encoding="utf-8", errors=errors, line_buffering=by_line)
+
+
+def named_output(stream: TextIO) -> TextIO:
+    """Standard output whose faults say that they are of it."""
+    return over(stream, Named)
+
+
+def quiet_errors(stream: TextIO) -> TextIO:
+    """Standard error that fails at nothing."""
+    return over(stream, Quiet)

@@ -2,6 +2,9 @@
 
 from __future__ import annotations
 
+import html
+import re
+
 
 def listed(words: list[str]) -> str:
     """Words as English lists them."""
@@ -32,3 +35,12 @@ def size_words(size: float) -> str:
     while size >= 1023.95 and at < len(UNITS) - 1:
         size, at = size / 1024, at + 1
     return f"{size:.1f} {UNITS[at]}" if at else f"{size:.0f} B"
+
+
+# Signs that stand in no page and no picture: XML 1.0, 2.2.
+NO_SIGNS = re.compile("[\x00-\x08\x0b\x0c\x0e-\x1f\x7f-\x9f\ud800-\udfff\ufffe\uffff]")
+
+
+def escaped(text: str) -> str:
+    """A text as a page or a picture has it; signs that neither may have are replaced."""
+    return html.escape(NO_SIGNS.sub("\ufffd", text))

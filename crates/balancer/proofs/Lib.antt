@@ -3,6 +3,7 @@ pub mod StoredDomains
 pub mod MovedGroups
 pub mod MappedSetsMoved
 pub mod WeightsOfCandidates
+pub mod WeightsInBuckets
 pub mod GroupsOnOsds
 pub mod FirstPlaceReplaced
 pub mod DeviationsSmall

@@ -51,6 +51,8 @@ level_chosen (step.Choose c) = Some c.level
 level_chosen (step.Take _) = None
 level_chosen (step.SetChooseTries _) = None
 level_chosen (step.SetChooseleafTries _) = None
+level_chosen (step.SetChooseleafVaryR _) = None
+level_chosen (step.SetChooseleafStable _) = None
 level_chosen step.Emit = None
 
 -- the types that steps choose, in order

@@ -1,5 +1,5 @@
 -- The OSDs over which a pool is balanced, and how far each is above or below its share.
-use Rattle.std.specs.Prelude.{ℕ, ◌+◌, ◌-◌, ◌*◌, ◌^◌, ◌==◌, Bool, not, ◌&&◌, ℤ, pos, ◌+ℤ◌, ◌-ℤ◌, ◌*ℤ◌, ◌<ℤ◌, ◌≤ℤ◌, neg_ℤ, List, length, slice_index, slice_index_or, nat_abs}
+use Rattle.std.specs.Prelude.{◌≡◌, ℕ, ◌+◌, ◌-◌, ◌*◌, ◌^◌, ◌<◌, ◌==◌, Bool, not, ◌&&◌, ℤ, pos, ◌+ℤ◌, ◌-ℤ◌, ◌*ℤ◌, ◌<ℤ◌, ◌≤ℤ◌, neg_ℤ, List, length, slice_index, slice_index_or, nat_abs}
 use Rattle.std.specs.List.{All, filter, find, flat_map, range_with_len, sum_by, count_by}
 use Rattle.std.specs.Option.{option_map_or}
 use Rattle.std.specs.Ordering.{int_eq}
@@ -40,6 +40,11 @@ candidate_osds m p = filter (is_candidate m p) (osds_of m)
 unfoldable pub item_weight : List Bucket → ℕ → ℕ
 item_weight buckets osd =
     option_map_or (λ i. i.weight) (find (λ i. int_eq i.id (pos osd)) (flat_map (λ b. b.items) buckets)) 0
+
+-- the weights that so many OSDs have in their buckets, by number
+pub record AreItemWeights (buckets : List Bucket) (count : ℕ) (weights : List ℕ) : Type 0 where
+  pub long : length weights ≡ count
+  pub each : (osd : ℕ) → osd < count → slice_index weights osd ≡ item_weight buckets osd
 
 -- the weight of an OSD: that in its bucket times its reweight
 unfoldable pub weight_in_map : ClusterMap → ℕ → ℕ

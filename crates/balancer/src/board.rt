@@ -58,7 +58,12 @@ fn above_share_of(frame: &Frame, table: &PgTable, places: u64, osd: u32) -> i128
     ensures low { neg_ℤ (pos (2 ^ 99)) <ℤ result }
 {
     let count = count(frame.map, table, &frame.pool, osd);
-    above_share(count, frame.weight, places, weight_of(frame.map, osd))
+    above_share(
+        count,
+        frame.weight,
+        places,
+        weight_of(frame.map, &frame.weights, osd),
+    )
 }
 
 /// What is above a share, in 256ths.

@@ -5,12 +5,13 @@ ghost use Rattle.buckets.specs.Limits.{max_devices};
 ghost use Rattle.osdmap.specs.Maps.{pool_at};
 ghost use Rattle.std.specs.List.{list_all};
 ghost use Rattle.osdmap.specs.Placement.{steps_of};
-ghost use Rattle.balancer.specs.Shares.{candidate_osds, total_weight, group_weight, least_gap, aim_of, AreSmall};
+ghost use Rattle.balancer.specs.Shares.{candidate_osds, total_weight, group_weight, least_gap, aim_of, AreItemWeights, AreSmall};
 ghost use Rattle.balancer.specs.Moves.{level_chosen, levels_of, last_level, domains_of, are_under_same};
 
 use crate::domains::{are_under_same, domains_of};
 use crate::request::Request;
 use crate::shares::{are_small, candidates, total};
+use crate::weights::item_weights;
 use crush::Step;
 use maptypes::Pool;
 use osdmap::OsdMap;
@@ -89,7 +90,9 @@ pub(crate) struct Frame<'a> {
     pub domains: Vec<Option<i64>>,
     /// The candidates, by number upwards.
     pub osds: Vec<u32>,
-    /// What they weigh together.
+    /// The weights of all OSDs in their buckets, by number.
+    pub weights: Vec<u32>,
+    /// What the candidates weigh together.
     pub weight: u64,
     ghost pool_is: { pool_at map.now.map.pools pool.id ≡ Some pool },
     ghost carried_small: { AreSmall carried.now },
@@ -98,6 +101,7 @@ pub(crate) struct Frame<'a> {
     ghost domains_are: { domains.items ≡ domains_of map.now.map (last_level levels.items) },
     ghost osds_are: { osds.items ≡ candidate_osds map.now.map pool },
     ghost osds_few: { length osds.items ≤ max_devices },
+    ghost weights_are: { AreItemWeights map.now.map.buckets (length map.now.map.presences) weights.items },
     ghost weight_is: { weight ≡ total_weight map.now.map pool },
     ghost weight_small: { weight ≤ 2 ^ 60 },
 }
@@ -126,7 +130,8 @@ impl<'a> Frame<'a> {
         let levels = levels(alloc, map, &pool)?;
         let domains = domains_of(alloc, map, last_of(&levels))?;
         let osds = candidates(alloc, map, &pool)?;
-        let weight = total(map, &osds);
+        let weights = item_weights(alloc, map.forest().buckets(), map.max_osd())?;
+        let weight = total(map, &weights, &osds);
         Ok(Frame {
             map,
             pool,
@@ -135,6 +140,7 @@ impl<'a> Frame<'a> {
             levels,
             domains,
             osds,
+            weights,
             weight,
         })
     }

@@ -9,7 +9,7 @@
 //! - `group`, `domains`: groups as a plan keeps them, and what stands above OSDs
 //! - `ways`: where groups may go
 //! - `load`: what OSDs carry beside a pool, in 256ths of a group
-//! - `shares`, `standing`: who is a candidate and what OSDs weigh, and which groups stand on each OSD
+//! - `weights`, `shares`, `standing`: what OSDs weigh, who is a candidate, and which groups stand on each OSD
 //! - `ordering`, `compare`, `search`: the candidates in order, which moves are taken rather than others, and the search
 //!   for the best one
 //! - `running`: the moves, made one after another
@@ -40,6 +40,7 @@ mod search;
 mod shares;
 mod standing;
 mod ways;
+mod weights;
 mod widths;
 
 pub use moves::Move;

@@ -86,7 +86,11 @@ impl Marks {
         ensures { IfOk result (λ marks. (groups : List Group) →
             IsMarked frame.now.map.now.map frame.now.pool groups marks) }
     {
-        let Numbering { numbers, firsts } = Numbering::new(alloc, frame)?;
+        let Numbering {
+            numbers,
+            firsts,
+            ..
+        } = Numbering::new(alloc, frame)?;
         let rows = blank_rows(alloc, frame.map.max_osd(), firsts.len())?;
         Ok(Marks {
             rows,

@@ -1,9 +1,7 @@
 //! Who is a candidate, and what OSDs weigh.
 
-ghost use Rattle.std.specs.Prelude.{◌≡◌, ◌*◌, ◌≤◌, ◌<◌, ◌^◌, ◌&&◌, not, pos, length, slice_index, Some, IfOk};
-ghost use Rattle.std.specs.List.{find, sum_by};
-ghost use Rattle.std.specs.Option.{option_copied};
-ghost use Rattle.std.specs.Ordering.{int_eq};
+ghost use Rattle.std.specs.Prelude.{◌≡◌, ◌*◌, ◌≤◌, ◌<◌, ◌^◌, ◌&&◌, not, pos, length, slice_index, slice_index_or, Some, IfOk};
+ghost use Rattle.std.specs.List.{sum_by};
 ghost use Rattle.crush.specs.Limits.{full_weight};
 ghost use Rattle.buckets.specs.Limits.{max_devices};
 ghost use Rattle.crush.specs.Paths as paths;
@@ -13,9 +11,8 @@ ghost use Rattle.osdmap.specs.Mapped.{is_weightless};
 ghost use Rattle.osdmap.specs.Placement.{steps_of};
 ghost use Rattle.pgtable.specs.Index.{count_in};
 ghost use Rattle.pgtable.specs.Tables.{IsTableOf};
-ghost use Rattle.balancer.specs.Shares.{is_candidate, osds_of, candidate_osds, item_weight, weight_in_map, AreSmall};
+ghost use Rattle.balancer.specs.Shares.{is_candidate, osds_of, candidate_osds, weight_in_map, AreItemWeights, AreSmall};
 
-use buckets::{Bucket, Item};
 use maptypes::Pool;
 use osdmap::OsdMap;
 use pgtable::PgTable;
@@ -65,27 +62,6 @@ pub(crate) fn candidates(alloc: Global, map: &OsdMap, pool: &Pool) -> Result<Vec
     Ok(osds)
 }
 
-/// The item that an OSD is among some.
-fn item_of(items: &[Item], osd: u32) -> Option<&Item>
-    ensures { option_copied result ≡ find (λ i. int_eq i.id (pos osd)) items.now }
-{
-    items
-        .iter()
-        .find(|item| i64::from(item.id) == i64::from(osd))
-}
-
-/// The weight of an OSD in its bucket.
-fn item_weight(buckets: &[Bucket], osd: u32) -> u32
-    ensures { result ≡ item_weight buckets.now osd }
-{
-    for bucket in buckets {
-        if let Some(item) = item_of(&bucket.items, osd) {
-            return item.weight;
-        }
-    }
-    0
-}
-
 /// The reweight of an OSD: 0 to 65,536.
 pub(crate) fn reweight(map: &OsdMap, osd: u32) -> u32
     ensures value { result ≡ slice_index map.now.map.weights osd }
@@ -98,24 +74,33 @@ pub(crate) fn reweight(map: &OsdMap, osd: u32) -> u32
     }
 }
 
+/// The weight that an OSD has in its bucket, by the list of all of them.
+fn listed_weight(weights: &[u32], osd: u32) -> u32
+    ensures { result ≡ slice_index_or weights.now osd 0 }
+{
+    weights.get(osd as usize).copied().unwrap_or(0)
+}
+
 /// The weight of an OSD: that in its bucket times its reweight.
-#[tactic(auto, unfolding(crate::specs::Shares::weight_in_map))]
-pub(crate) fn weight_of(map: &OsdMap, osd: u32) -> u64
+pub(crate) fn weight_of(map: &OsdMap, weights: &[u32], osd: u32) -> u64
+    requires { AreItemWeights map.now.map.buckets (length map.now.map.presences) weights.now }
     ensures value { result ≡ weight_in_map map.now.map osd }
     ensures small { result < 2 ^ 48 }
 {
-    u64::from(item_weight(map.forest().buckets(), osd)) * u64::from(reweight(map, osd))
+    map.holds_together();
+    u64::from(listed_weight(weights, osd)) * u64::from(reweight(map, osd))
 }
 
 /// What some OSDs weigh together.
-pub(crate) fn total(map: &OsdMap, osds: &[u32]) -> u64
-    requires { length osds.now ≤ max_devices }
+pub(crate) fn total(map: &OsdMap, weights: &[u32], osds: &[u32]) -> u64
+    requires few { length osds.now ≤ max_devices }
+    requires weights { AreItemWeights map.now.map.buckets (length map.now.map.presences) weights.now }
     ensures value { result ≡ sum_by (weight_in_map map.now.map) osds.now }
     ensures small { result ≤ 2 ^ 60 }
 {
     let mut total = 0;
     for osd in osds {
-        total += weight_of(map, *osd);
+        total += weight_of(map, weights, *osd);
     }
     total
 }

@@ -16,6 +16,8 @@ abbrev pub takes_at : List Bucket → ℤ → Step → Bool
 takes_at buckets id (step.Take top) = int_eq top id || is_above buckets top id
 takes_at buckets id (step.SetChooseTries _) = false
 takes_at buckets id (step.SetChooseleafTries _) = false
+takes_at buckets id (step.SetChooseleafVaryR _) = false
+takes_at buckets id (step.SetChooseleafStable _) = false
 takes_at buckets id (step.Choose _) = false
 takes_at buckets id step.Emit = false
 
@@ -83,6 +85,10 @@ reads buckets steps size places top room rest [] = true
 reads buckets steps size places top room rest (step.SetChooseTries _ ∷ others) =
     reads buckets steps size places top room rest others
 reads buckets steps size places top room rest (step.SetChooseleafTries _ ∷ others) =
+    reads buckets steps size places top room rest others
+reads buckets steps size places top room rest (step.SetChooseleafVaryR _ ∷ others) =
+    reads buckets steps size places top room rest others
+reads buckets steps size places top room rest (step.SetChooseleafStable _ ∷ others) =
     reads buckets steps size places top room rest others
 reads buckets steps size places top room rest (step.Take id ∷ others) =
     reads buckets steps size places id room rest others

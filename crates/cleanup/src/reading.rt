@@ -210,6 +210,12 @@ impl Reading<'_> {
             [Step::SetChooseleafTries(_), others @ ..] => self.reads(
                 places, top, room, rest, others,
             ),
+            [Step::SetChooseleafVaryR(_), others @ ..] => self.reads(
+                places, top, room, rest, others,
+            ),
+            [Step::SetChooseleafStable(_), others @ ..] => self.reads(
+                places, top, room, rest, others,
+            ),
             [Step::Take(id), others @ ..] => self.reads(places, *id, room, rest, others),
             [Step::Choose(choose), others @ ..] => {
                 let more = (room * usize::from(numrep(*choose, self.size))).min(20);

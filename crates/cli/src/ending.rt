@@ -29,7 +29,7 @@ pub enum Ending<'a> {
     Output,
     /// What live sessions have told.
     Told,
-    /// A change that a session has seen is not in what the monitor ends with, or not of one session.
+    /// A change that a session has seen is not of one session, or the lock has lost the state.
     Lost,
     /// Out of memory.
     Memory,

@@ -16,7 +16,7 @@ use Rattle.crush.specs.declared.choose.Position.TheVariants.{Open, Hole, Filled}
 use Rattle.crush.specs.Choosing.{Choosing}
 use Rattle.crush.specs.World.{World, is_out}
 use Rattle.crush.specs.Descent.{item_below, leaf_below}
-use Rattle.crush.specs.Firstn.{numbers_from, is_free, attempt_with, attempt_at, attempt_of, is_failed, replica_of, with_attempt, after_replica, firstn}
+use Rattle.crush.specs.Firstn.{numbers_from, is_free, leaf_number, attempt_with, attempt_at, attempt_of, is_failed, replica_of, with_attempt, after_replica, firstn}
 use Rattle.crush.specs.Indep.{replica_number, replica_numbers, holds_item, is_open, position_with, position_at, position_of, after_position, after_round, indep}
 use Rattle.crush.proofs.Folds.{fold_keeps}
 use Rattle.crush.proofs.ItemTries.{attempt_by, chosen_by, first_of, position_by, filled_by}
@@ -58,15 +58,15 @@ attempt_same R k vs chosen r item s holds device =
     let v = other k.world vs in
     let held = list_any (λ (o : Choice). int_eq o.item item) chosen in
     let free : (d : ℤ) → R d → IsDevice d → is_free k.world chosen d ≡ is_free v chosen d = λ d h q. ap (λ o. not (o || list_any (λ (e : Choice). int_eq e.leaf d) chosen)) (s.alike d h q) in
-    let leaf = leaf_same R k.world vs (is_free k.world chosen) (is_free v chosen) (numbers_from r k.tries.leaf) item s holds free in
+    let leaf = leaf_same R k.world vs (is_free k.world chosen) (is_free v chosen) (numbers_from (leaf_number k.tries (length chosen) r) k.tries.leaf) item s holds free in
     ap (λ l. attempt_by held k.choose.to_leaf (eqb k.choose.level 0 && is_out k.world item) l item) leaf
-    ∙ ap (λ b. attempt_by held k.choose.to_leaf b (leaf_below v (is_free v chosen) (numbers_from r k.tries.leaf) item) item) (barred_same R k.world vs k.choose.level item s holds device)
+    ∙ ap (λ b. attempt_by held k.choose.to_leaf b (leaf_below v (is_free v chosen) (numbers_from (leaf_number k.tries (length chosen) r) k.tries.leaf) item) item) (barred_same R k.world vs k.choose.level item s holds device)
 
 -- the leaf of a chosen item is in a set of leaves
 attempt_in : (D : ℤ → Type 0) (k : Choosing) (chosen : List Choice) (r : ℕ) (item : ℤ) (e : Choice) → ((accepts : ℤ → Bool) (rs : List (Bucket → ℕ)) (leaf : ℤ) → leaf_below k.world accepts rs item ≡ Some leaf → D leaf) → (k.choose.to_leaf ≡ false → D item) → attempt_with k chosen r item ≡ Chosen e → D e.leaf
 unfolding attempt_with attempt_by
 attempt_in D k chosen r item e leaves bare h =
-    let rs = numbers_from r k.tries.leaf in
+    let rs = numbers_from (leaf_number k.tries (length chosen) r) k.tries.leaf in
     let is = chosen_by (list_any (λ o. int_eq o.item item) chosen) k.choose.to_leaf (eqb k.choose.level 0 && is_out k.world item) (leaf_below k.world (is_free k.world chosen) rs item) item e h in
     elim (cases_Bool k.choose.to_leaf) [
       | inl leafy ↦ leaves (is_free k.world chosen) rs e.leaf (is.taken leafy)

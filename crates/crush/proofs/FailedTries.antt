@@ -1,9 +1,9 @@
 -- What failed beside some choices fails beside more.
-use Rattle.std.proofs.Common.{◌≡◌, ℕ, zero, suc, ◌+◌, ◌-◌, ◌≤◌, ℤ, Bool, true, false, cond, not, ◌||◌, List, [], ◌∷◌, ◌++◌, Option, Some, None, inl, inr, refl, sym, ap, ◌∙◌, arith}
+use Rattle.std.proofs.Common.{◌≡◌, ℕ, zero, suc, ◌+◌, ◌-◌, ◌≤◌, ℤ, Bool, true, false, cond, not, ◌||◌, List, [], ◌∷◌, ◌++◌, length, Option, Some, None, inl, inr, refl, sym, ap, ◌∙◌, arith}
 use Rattle.std.specs.List.{find, filter_map, list_any}
 use Rattle.std.specs.Option.{option_and_then}
 use Rattle.std.specs.Ordering.{int_eq}
-use Rattle.std.proofs.lemmas.Bool.{cases_lt}
+use Rattle.std.proofs.lemmas.Bool.{cases_lt, ne_eqb}
 use Rattle.std.proofs.lemmas.List.Folds.{list_any-append}
 use Rattle.std.proofs.lemmas.Option.{none-some}
 use Rattle.buckets.specs.declared.bucket.Bucket.{Bucket}
@@ -11,9 +11,10 @@ use Rattle.crush.specs.declared.choose.Attempt.{Attempt}
 use Rattle.crush.specs.declared.choose.Attempt.TheVariants.{Abandoned, Failed, Chosen}
 use Rattle.crush.specs.declared.choose.Choice.{Choice}
 use Rattle.crush.specs.declared.choose.Picked.{Picked}
+use Rattle.crush.specs.declared.choose.Tries.{Tries}
 use Rattle.crush.specs.Choosing.{Choosing}
 use Rattle.crush.specs.Descent.{item_below, device_below, leaf_below}
-use Rattle.crush.specs.Firstn.{numbers_from, is_free, with_leaf, attempt_with, attempt_at, attempt_of, is_failed, replica_of, with_attempt}
+use Rattle.crush.specs.Firstn.{numbers_from, is_free, with_leaf, settled_by, varied_by, leaf_number, attempt_with, attempt_at, attempt_of, is_failed, replica_of, with_attempt}
 use Rattle.crush.specs.Forest.{bucket_at}
 use Rattle.crush.specs.Tried.{HaveFailed}
 use Rattle.crush.specs.World.{World, is_out}
@@ -65,34 +66,46 @@ failed true false t item m n rest h g e = absurd (let no : false ≡ true = h re
 failed false false true item m n rest h g e = ap (with_leaf item) (g (leafless item m e))
 failed false false false item m n rest h g e = e
 
--- an item that fails does so beside one choice more
-with_failed : (k : Choosing) (chosen : List Choice) (e : Choice) (r : ℕ) (item : ℤ) → attempt_with k chosen r item ≡ Failed → attempt_with k (chosen ++ e ∷ []) r item ≡ Failed
+-- unless leaves are sought by how many are chosen, that does not matter
+settled : (stable m n : ℕ) → (stable ≡ 0 → ⊥) → settled_by stable m ≡ settled_by stable n
+settled stable m n h = ap (λ b. cond b m 0) (ne_eqb stable 0 h) ∙ sym (ap (λ b. cond b n 0) (ne_eqb stable 0 h))
+
+-- so a leaf is sought from the same number on
+same_number : (t : Tries) (m n r : ℕ) → (t.stable ≡ 0 → ⊥) → leaf_number t m r ≡ leaf_number t n r
+unfolding leaf_number
+same_number t m n r h = ap (λ s. s + varied_by t.vary r) (settled t.stable m n h)
+
+-- an item that fails does so beside one choice more, unless leaves are sought by how many are chosen
+with_failed : (k : Choosing) (chosen : List Choice) (e : Choice) (r : ℕ) (item : ℤ) → (k.tries.stable ≡ 0 → ⊥) → attempt_with k chosen r item ≡ Failed → attempt_with k (chosen ++ e ∷ []) r item ≡ Failed
 unfolding attempt_with
-with_failed k chosen e r item h =
+with_failed k chosen e r item steady h =
     let p = λ (c : Choice). int_eq c.item item in
-    let rs = numbers_from r k.tries.leaf in
     let w = k.world in
-    failed (list_any p chosen) (list_any p (chosen ++ e ∷ [])) k.choose.to_leaf item (leaf_below w (is_free w chosen) rs item) (leaf_below w (is_free w (chosen ++ e ∷ [])) rs item) _
+    let more = chosen ++ e ∷ [] in
+    let below = λ (n : ℕ). leaf_below w (is_free w more) (numbers_from n k.tries.leaf) item in
+    let n = leaf_number k.tries (length chosen) r in
+    failed (list_any p chosen) (list_any p more) k.choose.to_leaf item (leaf_below w (is_free w chosen) (numbers_from n k.tries.leaf) item) (below (leaf_number k.tries (length more) r)) _
     (λ yes. list_any-append p chosen (e ∷ []) ∙ ap (λ b. b || list_any p (e ∷ [])) yes)
-    (leaf_none w chosen e rs item)
+    (λ none. ap below (same_number k.tries (length more) (length chosen) r steady) ∙ leaf_none w chosen e (numbers_from n k.tries.leaf) item none)
     h
 
 -- so does a try
-at_failed : (k : Choosing) (chosen : List Choice) (e : Choice) (r : ℕ) (found : Option Picked) → attempt_at k chosen r found ≡ Failed → attempt_at k (chosen ++ e ∷ []) r found ≡ Failed
-at_failed k chosen e r None h = h
-at_failed k chosen e r (Some p) h = with_failed k chosen e r p.item h
+at_failed : (k : Choosing) (chosen : List Choice) (e : Choice) (r : ℕ) (found : Option Picked) → (k.tries.stable ≡ 0 → ⊥) → attempt_at k chosen r found ≡ Failed → attempt_at k (chosen ++ e ∷ []) r found ≡ Failed
+at_failed k chosen e r None steady h = h
+at_failed k chosen e r (Some p) steady h = with_failed k chosen e r p.item steady h
 
 -- and a try from a bucket
-try_failed : (k : Choosing) (chosen : List Choice) (e : Choice) (start : Bucket) (r : ℕ) → attempt_of k chosen start r ≡ Failed → attempt_of k (chosen ++ e ∷ []) start r ≡ Failed
+try_failed : (k : Choosing) (chosen : List Choice) (e : Choice) (start : Bucket) (r : ℕ) → (k.tries.stable ≡ 0 → ⊥) → attempt_of k chosen start r ≡ Failed → attempt_of k (chosen ++ e ∷ []) start r ≡ Failed
 unfolding attempt_of
-try_failed k chosen e start r h = at_failed k chosen e r (item_below k.world (λ _. r) k.choose.level start) h
+try_failed k chosen e start r steady h = at_failed k chosen e r (item_below k.world (λ _. r) k.choose.level start) steady h
 
--- the tries that failed fail beside one attempt more
-pub fails_after : (k : Choosing) (chosen : List Choice) (start : Bucket) (a : Attempt) (from end : ℕ) → HaveFailed k chosen start from end → HaveFailed k (with_attempt chosen a) start from end
+-- the tries that failed fail beside one attempt more: of those that are still known, which are none where leaves are
+-- sought by how many are chosen
+pub fails_after : (k : Choosing) (chosen : List Choice) (start : Bucket) (a : Attempt) (from known still : ℕ) → HaveFailed k chosen start from (from + known) → still ≤ known → (k.tries.stable ≡ 0 → still ≡ 0) → HaveFailed k (with_attempt chosen a) start from (from + still)
 unfolding HaveFailed
-fails_after k chosen start Abandoned from end h = h
-fails_after k chosen start Failed from end h = h
-fails_after k chosen start (Chosen e) from end h = λ r past below. try_failed k chosen e start r (h r past below)
+fails_after k chosen start Abandoned from known still h few none = λ r past below. h r past (omega arith)
+fails_after k chosen start Failed from known still h few none = λ r past below. h r past (omega arith)
+fails_after k chosen start (Chosen e) from known still h few none = λ r past below. try_failed k chosen e start r (λ no. let empty = none no in absurd (omega arith)) (h r past (omega arith))
 
 -- one try more that fails
 pub fails_more : (k : Choosing) (chosen : List Choice) (start : Bucket) (rep f : ℕ) → HaveFailed k chosen start rep (rep + f) → attempt_of k chosen start (rep + f) ≡ Failed → HaveFailed k chosen start rep (rep + (f + 1))

@@ -1,6 +1,7 @@
 pub mod Rounds
 pub mod Descents
 pub mod LeafTries
+pub mod LeafNumbers
 pub mod ReplicaTries
 pub mod FailedTries
 pub mod Segments

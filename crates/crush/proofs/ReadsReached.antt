@@ -14,7 +14,7 @@ use Rattle.buckets.specs.declared.bucket.Bucket.{Bucket}
 use Rattle.buckets.specs.declared.bucket.Item.{Item}
 use Rattle.crush.specs.declared.step.RuleKind.{RuleKind}
 use Rattle.crush.specs.declared.step.Step.{Step}
-use Rattle.crush.specs.declared.step.Step.TheVariants.{SetChooseTries, SetChooseleafTries, Take, Choose as Chooses, Emit}
+use Rattle.crush.specs.declared.step.Step.TheVariants.{SetChooseTries, SetChooseleafTries, SetChooseleafVaryR, SetChooseleafStable, Take, Choose as Chooses, Emit}
 use Rattle.crush.specs.Forest.{bucket_at, level_of}
 use Rattle.crush.specs.Grammar.{step_limits_ok, IsLawfulRule}
 use Rattle.crush.specs.Paths.{has_item, takes_above, reaches}
@@ -43,6 +43,8 @@ pub TakesTo : List Bucket → ℤ → Step → Type 0
 TakesTo buckets item (Take top) = (top ≡ item) ⊎ IsAbove buckets top item
 TakesTo buckets item (SetChooseTries n) = ⊥
 TakesTo buckets item (SetChooseleafTries n) = ⊥
+TakesTo buckets item (SetChooseleafVaryR n) = ⊥
+TakesTo buckets item (SetChooseleafStable n) = ⊥
 TakesTo buckets item (Chooses c) = ⊥
 TakesTo buckets item Emit = ⊥
 
@@ -57,6 +59,8 @@ takes_below buckets id item (Take top) held (inl same) = inr (record { between =
 takes_below buckets id item (Take top) held (inr above) = inr (record { between = above.between ++ id ∷ []; path = path_more buckets above.between top id item above.path held })
 takes_below buckets id item (SetChooseTries n) held h = h
 takes_below buckets id item (SetChooseleafTries n) held h = h
+takes_below buckets id item (SetChooseleafVaryR n) held h = h
+takes_below buckets id item (SetChooseleafStable n) held h = h
 takes_below buckets id item (Chooses c) held h = h
 takes_below buckets id item Emit held h = h
 
@@ -65,6 +69,8 @@ takes_itself : (buckets : List Bucket) (steps : List Step) (k : ℕ) (s : Step) 
 unfolding TakesTo
 takes_itself buckets steps k (SetChooseTries n) within e = tt
 takes_itself buckets steps k (SetChooseleafTries n) within e = tt
+takes_itself buckets steps k (SetChooseleafVaryR n) within e = tt
+takes_itself buckets steps k (SetChooseleafStable n) within e = tt
 takes_itself buckets steps k (Take id) within e = (k, Take id, within, e, inl refl)
 takes_itself buckets steps k (Chooses c) within e = tt
 takes_itself buckets steps k Emit within e = tt
@@ -128,6 +134,8 @@ takes_device buckets n (Take top) forest limits (inl same) =
 takes_device buckets n (Take top) forest limits (inr above) = (above-tested buckets forest top (pos n)).1 above
 takes_device buckets n (SetChooseTries t) forest limits h = absurd h
 takes_device buckets n (SetChooseleafTries t) forest limits h = absurd h
+takes_device buckets n (SetChooseleafVaryR t) forest limits h = absurd h
+takes_device buckets n (SetChooseleafStable t) forest limits h = absurd h
 takes_device buckets n (Chooses c) forest limits h = absurd h
 takes_device buckets n Emit forest limits h = absurd h
 

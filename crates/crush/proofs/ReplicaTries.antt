@@ -1,5 +1,5 @@
 -- The tries of one replica, and the replicas one after another.
-use Rattle.std.proofs.Common.{◌≡◌, ℕ, zero, suc, ◌+◌, ◌-◌, ◌<◌, ◌≤◌, not, cond, List, map, length, Some, true, refl, sym, ap, ◌∙◌, arith}
+use Rattle.std.proofs.Common.{◌≡◌, ℕ, zero, suc, ◌+◌, ◌-◌, ◌<◌, ◌≤◌, not, cond, List, [], ◌∷◌, map, length, length-append, Some, true, refl, sym, ap, ◌∙◌, arith}
 use Rattle.std.specs.List.{find, range_with_len}
 use Rattle.std.specs.Prelude.{unwrap_or}
 use Rattle.std.proofs.lemmas.Bool.{lt-ltb, le-ltb}
@@ -51,6 +51,12 @@ pub with_other : (chosen : List Choice) (a : Attempt) → ((e : Choice) → a �
 with_other chosen Abandoned h = refl
 with_other chosen Failed h = refl
 with_other chosen (Chosen e) h = absurd (h e refl)
+
+-- an attempt adds one item at most
+pub with_one : (chosen : List Choice) (a : Attempt) → length (with_attempt chosen a) ≤ length chosen + 1
+with_one chosen Abandoned = omega arith
+with_one chosen Failed = omega arith
+with_one chosen (Chosen e) = omega (arith, length-append chosen (e ∷ []))
 
 -- what the loop over the replicas does for one of them
 pub replica_taken : (k : Choosing) (start : Bucket) (limit : ℕ) (chosen seen new : List Choice) (a : Attempt) (rep : ℕ) → length chosen < limit → seen ≡ chosen → a ≡ replica_of k seen start k.tries.total rep → new ≡ with_attempt chosen a → new ≡ after_replica k start limit chosen rep

@@ -10,7 +10,7 @@ use Rattle.crush.specs.declared.choose.Tries.{Tries}
 use Rattle.crush.specs.declared.step.Mode.{Mode}
 use Rattle.crush.specs.declared.step.Mode.TheVariants.{Firstn, Indep}
 use Rattle.crush.specs.declared.step.Step.{Step}
-use Rattle.crush.specs.declared.step.Step.TheVariants.{SetChooseTries, SetChooseleafTries, Take, Choose as Chooses, Emit}
+use Rattle.crush.specs.declared.step.Step.TheVariants.{SetChooseTries, SetChooseleafTries, SetChooseleafVaryR, SetChooseleafStable, Take, Choose as Chooses, Emit}
 use Rattle.crush.specs.Choosing.{Choosing}
 use Rattle.crush.specs.Forest.{bucket_at}
 use Rattle.crush.specs.World.{World}
@@ -29,6 +29,8 @@ IsIn R (Some item) = R item
 abbrev pub TakesIn : (ℤ → Type 0) → Step → Type 0
 TakesIn R (SetChooseTries n) = Unit {0}
 TakesIn R (SetChooseleafTries n) = Unit {0}
+TakesIn R (SetChooseleafVaryR n) = Unit {0}
+TakesIn R (SetChooseleafStable n) = Unit {0}
 TakesIn R (Take id) = R id
 TakesIn R (Chooses c) = Unit {0}
 TakesIn R Emit = Unit {0}
@@ -99,6 +101,8 @@ step_same : (R : ℤ → Type 0) (w : World) (vs : List ℕ) (size : ℕ) (p : P
 unfolding after_step progress_of
 step_same R w vs size p (SetChooseTries n) s all = refl
 step_same R w vs size p (SetChooseleafTries n) s all = refl
+step_same R w vs size p (SetChooseleafVaryR n) s all = refl
+step_same R w vs size p (SetChooseleafStable n) s all = refl
 step_same R w vs size p (Take id) s all = refl
 step_same R w vs size p (Chooses c) s all = ap (λ ys. progress_of p.tries ys p.emitted) (working_same R (choosing_of w size p.tries c) vs size [] p.working s all)
 step_same R w vs size p Emit s all = refl
@@ -108,6 +112,8 @@ pub step_in : (R : ℤ → Type 0) (w : World) (vs : List ℕ) (size : ℕ) (p :
 unfolding after_step
 step_in R w vs size p (SetChooseTries n) s takes all = all
 step_in R w vs size p (SetChooseleafTries n) s takes all = all
+step_in R w vs size p (SetChooseleafVaryR n) s takes all = all
+step_in R w vs size p (SetChooseleafStable n) s takes all = all
 step_in R w vs size p (Take id) s takes all = All-cons (IsIn R) (Some id) [] takes (nothing R)
 step_in R w vs size p (Chooses c) s takes all = working_in R (choosing_of w size p.tries c) vs size [] p.working s all (nothing R)
 step_in R w vs size p Emit s takes all = nothing R

@@ -1,5 +1,5 @@
 -- Choosing items that are packed (CRUSH paper, section 3.2; Ceph, mapper.c, crush_choose_firstn).
-use Rattle.std.specs.Prelude.{ℕ, ℤ, Bool, true, false, not, ◌&&◌, ◌||◌, List, [], ◌∷◌, ◌++◌, length, map, nat_lt, ◌==◌, Option, Some, None, unwrap_or, if◌then◌else◌}
+use Rattle.std.specs.Prelude.{ℕ, ◌+◌, ◌-◌, ◌/◌, ◌^◌, ℤ, Bool, true, false, not, ◌&&◌, ◌||◌, List, [], ◌∷◌, ◌++◌, length, map, nat_lt, ◌==◌, Option, Some, None, unwrap_or, if◌then◌else◌}
 use Rattle.std.specs.List.{range_with_len, find, fold, list_any}
 use Rattle.std.specs.Ordering.{int_eq}
 use Rattle.buckets.specs.declared.bucket.Bucket.{Bucket}
@@ -7,6 +7,7 @@ use Rattle.crush.specs.declared.choose.Attempt.{Attempt}
 use Rattle.crush.specs.declared.choose.Attempt.TheVariants.{Abandoned, Failed, Chosen}
 use Rattle.crush.specs.declared.choose.Choice.{Choice}
 use Rattle.crush.specs.declared.choose.Picked.{Picked}
+use Rattle.crush.specs.declared.choose.Tries.{Tries}
 use Rattle.crush.specs.Choosing.{Choosing}
 use Rattle.crush.specs.World.{World, is_out}
 use Rattle.crush.specs.Descent.{item_below, leaf_below}
@@ -24,13 +25,28 @@ abbrev pub with_leaf : ℤ → Option ℤ → Attempt
 with_leaf item None = Failed
 with_leaf item (Some leaf) = Chosen (record { item = item; leaf = leaf })
 
+-- what the replica number of a bucket adds to that of its leaf (chooseleaf_vary_r): nothing, the number itself, or the
+-- number halved so often
+abbrev pub varied_by : ℕ → ℕ → ℕ
+varied_by vary r = if vary == 0 then 0 else r / 2 ^ (vary - 1)
+
+-- what the number of items that are chosen already adds to it (chooseleaf_stable): all of it, or nothing
+abbrev pub settled_by : ℕ → ℕ → ℕ
+settled_by stable count = if stable == 0 then count else 0
+
+-- the replica number from which on the leaf below a bucket is sought that was picked with replica number r, where so
+-- many items are chosen already
+unfoldable pub leaf_number : Tries → ℕ → ℕ → ℕ
+leaf_number t count r = settled_by t.stable count + varied_by t.vary r
+
 -- what an item comes to beside those chosen so far: one that is chosen already, a device that is out, and a bucket
 -- without an acceptable leaf are failures
 unfoldable pub attempt_with : Choosing → List Choice → ℕ → ℤ → Attempt
 attempt_with k chosen r item =
     if list_any (λ e. int_eq e.item item) chosen then Failed
     else if k.choose.to_leaf
-    then with_leaf item (leaf_below k.world (is_free k.world chosen) (numbers_from r k.tries.leaf) item)
+    then with_leaf item (leaf_below k.world (is_free k.world chosen)
+    (numbers_from (leaf_number k.tries (length chosen) r) k.tries.leaf) item)
     else if k.choose.level == 0 && is_out k.world item then Failed
     else Chosen (record { item = item; leaf = item })
 

@@ -15,17 +15,19 @@ use Rattle.refusal.specs.declared.refused.Refusal.{Refusal}
 use Rattle.refusal.specs.declared.refused.Refusal.TheVariants.{BadLimit, BadRule}
 use Rattle.refusal.specs.Outcomes.{refused_unless}
 use Rattle.crush.specs.Forest.{bucket_at}
-use Rattle.crush.specs.Limits.{max_steps, max_count, max_tries}
+use Rattle.crush.specs.Limits.{max_steps, max_count, max_tries, max_vary, max_stable}
 use Rattle.buckets.specs.Limits.{max_level, is_within}
 use Rattle.buckets.specs.Buckets.{is_bucket_id}
 
 -- a step within the limits: it takes an id that a bucket may have, chooses items, no more than the most, of a type up
--- to the highest, or sets tries, no more than the most
+-- to the highest, or sets tries, no more than the most, or how leaves are sought
 abbrev pub step_limits_ok : Step → Bool
 step_limits_ok (step.Take bucket) = is_bucket_id bucket
 step_limits_ok (step.Choose c) = nat_le c.count max_count && nat_le c.level max_level
 step_limits_ok (step.SetChooseTries n) = is_within 1 max_tries n
 step_limits_ok (step.SetChooseleafTries n) = is_within 1 max_tries n
+step_limits_ok (step.SetChooseleafVaryR n) = nat_le n max_vary
+step_limits_ok (step.SetChooseleafStable n) = nat_le n max_stable
 step_limits_ok step.Emit = true
 
 -- a rule within the limits: steps, no more than the most
@@ -55,10 +57,12 @@ is_block kind (step.Take _ ∷ step.Choose a ∷ step.Choose b ∷ step.Choose c
     is_earlier kind a b && is_earlier kind b c && is_last kind c
 is_block kind _ = false
 
--- whether a step sets tries
+-- whether a step sets how a choose step tries
 abbrev pub sets_tries : Step → Bool
 sets_tries (step.SetChooseTries _) = true
 sets_tries (step.SetChooseleafTries _) = true
+sets_tries (step.SetChooseleafVaryR _) = true
+sets_tries (step.SetChooseleafStable _) = true
 sets_tries (step.Take _) = false
 sets_tries (step.Choose _) = false
 sets_tries step.Emit = false
@@ -72,6 +76,8 @@ is_piece kind (s ∷ rest) = if sets_tries s then is_piece kind rest else is_blo
 abbrev pub is_emit : Step → Bool
 is_emit (step.SetChooseTries _) = false
 is_emit (step.SetChooseleafTries _) = false
+is_emit (step.SetChooseleafVaryR _) = false
+is_emit (step.SetChooseleafStable _) = false
 is_emit (step.Take _) = false
 is_emit (step.Choose _) = false
 is_emit step.Emit = true
@@ -93,6 +99,8 @@ abbrev pub takes_known : List Bucket → Step → Bool
 takes_known buckets (step.Take bucket) = is_some (bucket_at buckets bucket)
 takes_known buckets (step.SetChooseTries _) = true
 takes_known buckets (step.SetChooseleafTries _) = true
+takes_known buckets (step.SetChooseleafVaryR _) = true
+takes_known buckets (step.SetChooseleafStable _) = true
 takes_known buckets (step.Choose _) = true
 takes_known buckets step.Emit = true
 

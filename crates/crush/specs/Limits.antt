@@ -28,3 +28,11 @@ full_weight = 65536
 -- the most tries that a step sets
 abbrev pub max_tries : ℕ
 max_tries = 200
+
+-- the greatest number that a step of chooseleaf_vary_r sets
+abbrev pub max_vary : ℕ
+max_vary = 4
+
+-- the greatest number that a step of chooseleaf_stable sets
+abbrev pub max_stable : ℕ
+max_stable = 1

@@ -51,6 +51,8 @@ abbrev pub takes_above : List Bucket → ℤ → Step → Bool
 takes_above buckets osd (step.Take bucket) = is_above buckets bucket osd
 takes_above buckets osd (step.SetChooseTries _) = false
 takes_above buckets osd (step.SetChooseleafTries _) = false
+takes_above buckets osd (step.SetChooseleafVaryR _) = false
+takes_above buckets osd (step.SetChooseleafStable _) = false
 takes_above buckets osd (step.Choose _) = false
 takes_above buckets osd step.Emit = false
 

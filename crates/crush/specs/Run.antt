@@ -7,7 +7,7 @@ use Rattle.crush.specs.declared.step.Choose.{Choose}
 use Rattle.crush.specs.declared.step.Mode.{Mode}
 use Rattle.crush.specs.declared.step.Mode.TheVariants.{Firstn, Indep}
 use Rattle.crush.specs.declared.step.Step.{Step}
-use Rattle.crush.specs.declared.step.Step.TheVariants.{SetChooseTries, SetChooseleafTries, Take, Choose as Chooses, Emit}
+use Rattle.crush.specs.declared.step.Step.TheVariants.{SetChooseTries, SetChooseleafTries, SetChooseleafVaryR, SetChooseleafStable, Take, Choose as Chooses, Emit}
 use Rattle.crush.specs.Choosing.{Choosing}
 use Rattle.crush.specs.Forest.{bucket_at}
 use Rattle.crush.specs.World.{World}
@@ -51,16 +51,19 @@ pub record Progress : Type 0 where
   pub working : List (Option ℤ)
   pub emitted : List (Option ℤ)
 
--- before the first step: 50 tries after the first one (Ceph's choose_total_tries), and one for a leaf
--- (chooseleaf_descend_once), as the tunables called jewel have it
+-- before the first step, as the tunables called jewel have it: 50 tries after the first one (Ceph's
+-- choose_total_tries), one for a leaf (chooseleaf_descend_once), which is sought from the replica number of its bucket
+-- on (chooseleaf_vary_r 1), however many items are chosen (chooseleaf_stable 1)
 abbrev pub no_progress : Progress
-no_progress = record { tries = record { total = 51; leaf = 1 }; working = []; emitted = [] }
+no_progress = record { tries = record { total = 51; leaf = 1; vary = 1; stable = 1 }; working = []; emitted = [] }
 
 -- a step that sets tries holds for all choose steps up to the next of its kind; take sets the working list, a choose
 -- step makes a new one of it, emit appends it to the result, cut at the size
 unfoldable pub after_step : World → ℕ → Progress → Step → Progress
-after_step w size s (SetChooseTries n) = record s { tries = record { total = n; leaf = s.tries.leaf } }
-after_step w size s (SetChooseleafTries n) = record s { tries = record { total = s.tries.total; leaf = n } }
+after_step w size s (SetChooseTries n) = record s { tries = record s.tries { total = n } }
+after_step w size s (SetChooseleafTries n) = record s { tries = record s.tries { leaf = n } }
+after_step w size s (SetChooseleafVaryR n) = record s { tries = record s.tries { vary = n } }
+after_step w size s (SetChooseleafStable n) = record s { tries = record s.tries { stable = n } }
 after_step w size s (Take id) = record s { working = Some id ∷ [] }
 after_step w size s (Chooses c) = record s { working = chosen_from (choosing_of w size s.tries c) size s.working }
 after_step w size s Emit = record s { working = []; emitted = take size (s.emitted ++ s.working) }
@@ -73,6 +76,8 @@ run_of w steps size = (fold (after_step w size) no_progress steps).emitted
 abbrev pub is_choose : Step → Bool
 is_choose (SetChooseTries _) = false
 is_choose (SetChooseleafTries _) = false
+is_choose (SetChooseleafVaryR _) = false
+is_choose (SetChooseleafStable _) = false
 is_choose (Take _) = false
 is_choose (Chooses _) = true
 is_choose Emit = false

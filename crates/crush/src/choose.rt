@@ -2,13 +2,18 @@
 
 use buckets::Bucket;
 
-/// How often a choose step tries.
+/// How often a choose step tries, and from which replica number on a step that packs seeks a leaf.
 #[derive(Clone, Copy, Debug)]
 pub struct Tries {
     /// How many descents there are for each replica or position.
     pub total: u8,
     /// How many descents there are below each chosen bucket for its leaf.
     pub leaf: u8,
+    /// What the replica number of a bucket adds to that of its leaf: nothing at 0, else the number halved once less
+    /// often than this says.
+    pub vary: u8,
+    /// Whether that is all, where this is not 0. Where it is 0, how many items are chosen already is added.
+    pub stable: u8,
 }
 
 /// An item that a bucket picked, and the replica number with which it did.

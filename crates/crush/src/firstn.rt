@@ -1,17 +1,18 @@
 //! Choosing items that are packed (CRUSH paper, section 3.2; Ceph, mapper.c, `crush_choose_firstn`).
 
-ghost use Rattle.std.specs.Prelude.{◌≡◌};
+ghost use Rattle.std.specs.Prelude.{◌≡◌, ◌≤◌};
 ghost use Rattle.std.specs.List.{list_any};
 ghost use Rattle.std.specs.Ordering.{int_eq};
+ghost use Rattle.crush.specs.Firstn.{varied_by};
 
-use crate::choose::{Attempt, Choice};
+use crate::choose::{Attempt, Choice, Tries};
 use crate::chooser::Chooser;
 use crate::placement::Start;
 use crate::remembered::Picks;
 use buckets::Bucket;
 use std::alloc::AllocError;
 
-/// The replica that is sought, and how many of its first tries are known to fail.
+/// The replica that is sought, and how many of its first tries are known to fail beside what is chosen.
 #[derive(Clone, Copy)]
 struct Sought {
     rep: u8,
@@ -32,14 +33,73 @@ fn has_leaf(chosen: &[Choice], device: i32) -> bool
     chosen.iter().any(|choice| choice.leaf == device)
 }
 
+/// What the replica number of a bucket adds to that of its leaf.
+fn varied_by(vary: u8, r: u32) -> u32
+    ensures value { result ≡ varied_by vary r }
+    ensures small { result ≤ r }
+{
+    if vary == 0 {
+        return 0;
+    }
+    let times = vary - 1;
+    if times < 32 { r >> times } else { 0 }
+}
+
+impl Tries {
+    ghost use Rattle.std.specs.Prelude.{◌≡◌, ◌+◌, ◌^◌, ◌<◌, ◌≤◌};
+    ghost use Rattle.crush.specs.Firstn.{settled_by, leaf_number};
+
+    /// What the number of items that are chosen already adds to the replica number of a leaf.
+    fn settled_by(self, count: u32) -> u32
+        ensures value { result ≡ settled_by self.stable count }
+        ensures small { result ≤ count }
+    {
+        if self.stable == 0 { count } else { 0 }
+    }
+
+    /// The replica number from which on a leaf is sought, also where that is not its bucket's.
+    #[cold]
+    #[inline(never)]
+    #[tactic(auto, unfolding(crate::specs::Firstn::leaf_number))]
+    fn older_number(self, count: u32, r: u32) -> u32
+        requires room { count + r < 2 ^ 30 }
+        ensures value { result ≡ leaf_number self count r }
+        ensures small { result ≤ count + r }
+    {
+        self.settled_by(count) + varied_by(self.vary, r)
+    }
+
+    /// The replica number from which on the leaf of a bucket is sought that was picked with `r`.
+    #[inline(always)]
+    fn leaf_number(self, count: u32, r: u32) -> u32
+        requires room { count + r < 2 ^ 30 }
+        ensures value { result ≡ leaf_number self count r }
+        ensures small { result ≤ count + r }
+    {
+        if self.vary == 1 && self.stable != 0 {
+            return r;
+        }
+        self.older_number(count, r)
+    }
+
+    /// How many of the first tries are known to fail still where one item more is chosen: none where leaves are sought
+    /// by how many are.
+    fn still_known(self, known: u8) -> u8
+        ensures few { result ≤ known }
+        ensures none { self.stable ≡ 0 → result ≡ 0 }
+    {
+        if self.stable == 0 { 0 } else { known }
+    }
+}
+
 impl Chooser<'_> {
-    ghost use Rattle.std.specs.Prelude.{◌≡◌, ◌+◌, ◌^◌, ◌<◌, OnOk};
+    ghost use Rattle.std.specs.Prelude.{◌≡◌, ◌+◌, ◌^◌, ◌<◌, ◌≤◌, length, OnOk};
     ghost use Rattle.buckets.specs.Buckets.{IsPickable};
     ghost use Rattle.crush.specs.Placed.{world, choosing};
     ghost use Rattle.crush.specs.Descent.{leaf_below};
     ghost use Rattle.crush.specs.Remembered.{Remembers};
     ghost use Rattle.crush.specs.Tried.{HaveFailed};
-    ghost use Rattle.crush.specs.Firstn.{numbers_from, is_free, attempt_with, attempt_of, replica_of, firstn};
+    ghost use Rattle.crush.specs.Firstn.{numbers_from, is_free, attempt_with, attempt_of, replica_of, with_attempt, firstn};
 
     /// Whether a device is in, and no leaf yet.
     fn is_free(&self, chosen: &[Choice], device: i32) -> bool
@@ -74,7 +134,7 @@ impl Chooser<'_> {
     /// What an item comes to beside those chosen so far.
     #[tactic(auto, unfolding(crate::specs::Firstn::attempt_with))]
     fn attempt_with(&self, picks: &mut Picks, chosen: &[Choice], r: u32, item: i32) -> Attempt
-        requires room { r < 2 ^ 30 }
+        requires room { length chosen.now + r < 2 ^ 30 }
         requires picks { Remembers (world self.now.placement) picks.old }
         ensures value { result ≡ attempt_with (choosing self.now) chosen.now r item }
         ensures picks { Remembers (world self.now.placement) picks.new }
@@ -82,7 +142,8 @@ impl Chooser<'_> {
         if has_item(chosen, item) {
             Attempt::Failed
         } else if self.choose.to_leaf {
-            match self.leaf(picks, chosen, item, r) {
+            let number = self.tries.leaf_number(chosen.len() as u32, r);
+            match self.leaf(picks, chosen, item, number) {
                 Some(leaf) => Attempt::Chosen(Choice { item, leaf }),
                 None => Attempt::Failed,
             }
@@ -97,7 +158,7 @@ impl Chooser<'_> {
     #[tactic(auto, unfolding(crate::specs::Firstn::attempt_of))]
     fn attempt(&self, picks: &mut Picks, chosen: &[Choice], start: &Start, r: u32) -> Attempt
         requires input { start.now.x ≡ self.now.placement.x }
-        requires room { r < 2 ^ 30 }
+        requires room { length chosen.now + r < 2 ^ 30 }
         requires picks { Remembers (world self.now.placement) picks.old }
         ensures value { result ≡ attempt_of (choosing self.now) chosen.now start.now.bucket.now r }
         ensures picks { Remembers (world self.now.placement) picks.new }
@@ -118,6 +179,7 @@ impl Chooser<'_> {
     ) -> Attempt
         requires input { start.now.x ≡ self.now.placement.x }
         requires some { sought.old.rep < self.now.numrep }
+        requires few { length chosen.now ≤ sought.old.rep }
         requires picks { Remembers (world self.now.placement) picks.old }
         requires known { HaveFailed (choosing self.now) chosen.now start.now.bucket.now
             sought.old.rep (sought.old.rep + sought.old.known) }
@@ -125,7 +187,7 @@ impl Chooser<'_> {
             self.now.tries.total sought.old.rep }
         ensures picks { Remembers (world self.now.placement) picks.new }
         ensures next { sought.new.rep ≡ sought.old.rep + 1 }
-        ensures known { HaveFailed (choosing self.now) chosen.now start.now.bucket.now
+        ensures known { HaveFailed (choosing self.now) (with_attempt chosen.now result) start.now.bucket.now
             sought.new.rep (sought.new.rep + sought.new.known) }
     {
         let Sought { rep, known } = *sought;
@@ -136,7 +198,7 @@ impl Chooser<'_> {
                 decided => {
                     *sought = Sought {
                         rep: next,
-                        known: failures.saturating_sub(1),
+                        known: self.tries.still_known(failures.saturating_sub(1)),
                     };
                     return decided;
                 }

@@ -5,7 +5,7 @@ ghost use Rattle.std.specs.List.{list_all};
 ghost use Rattle.crush.specs.Grammar.{step_limits_ok, rule_limits_ok, serves, is_last, is_earlier, is_block, sets_tries, is_piece, is_emit, are_blocks, is_rule, takes_known};
 
 use crate::forest::Forest;
-use crate::limits::{MAX_COUNT, MAX_STEPS, MAX_TRIES};
+use crate::limits::{MAX_COUNT, MAX_STABLE, MAX_STEPS, MAX_TRIES, MAX_VARY};
 use crate::step::{Choose, Mode, RuleKind, Step};
 use buckets::is_bucket_id;
 use buckets::limits::MAX_LEVEL;
@@ -19,6 +19,8 @@ fn is_step_within(step: &Step) -> bool
         Step::Choose(choose) => choose.count <= MAX_COUNT && choose.level <= MAX_LEVEL,
         Step::SetChooseTries(tries) | Step::SetChooseleafTries(tries) => 1 <= *tries
             && *tries <= MAX_TRIES,
+        Step::SetChooseleafVaryR(vary) => *vary <= MAX_VARY,
+        Step::SetChooseleafStable(stable) => *stable <= MAX_STABLE,
         Step::Emit => true,
     }
 }
@@ -80,11 +82,17 @@ fn is_block(kind: RuleKind, steps: &[Step]) -> bool
     }
 }
 
-/// Whether a step sets tries.
+/// Whether a step sets how a choose step tries.
 fn sets_tries(step: &Step) -> bool
     ensures { result ≡ sets_tries step.now }
 {
-    matches!(step, Step::SetChooseTries(_) | Step::SetChooseleafTries(_))
+    match step {
+        Step::SetChooseTries(_)
+        | Step::SetChooseleafTries(_)
+        | Step::SetChooseleafVaryR(_)
+        | Step::SetChooseleafStable(_) => true,
+        Step::Take(_) | Step::Choose(_) | Step::Emit => false,
+    }
 }
 
 /// Whether the steps are a block without its emit, after steps that set tries or none.

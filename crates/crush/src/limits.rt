@@ -23,3 +23,9 @@ pub const FULL_WEIGHT: u32 = 65_536;
 
 /// The most tries that a step of a rule sets. The least is 1.
 pub const MAX_TRIES: u8 = 200;
+
+/// The greatest number that a step of `chooseleaf_vary_r` sets. The least is 0.
+pub const MAX_VARY: u8 = 4;
+
+/// The greatest number that a step of `chooseleaf_stable` sets. The least is 0.
+pub const MAX_STABLE: u8 = 1;

@@ -186,6 +186,8 @@ impl Placement<'_> {
         match step {
             Step::SetChooseTries(tries) => lists.tries.total = tries,
             Step::SetChooseleafTries(tries) => lists.tries.leaf = tries,
+            Step::SetChooseleafVaryR(vary) => lists.tries.vary = vary,
+            Step::SetChooseleafStable(stable) => lists.tries.stable = stable,
             Step::Take(id) => {
                 lists.working.clear();
                 lists.working.push(Some(id))?;

@@ -40,6 +40,12 @@ pub enum Step {
     /// How often each later choose step tries for a leaf below a bucket that it chose, 1 to 200: up to the next step of
     /// this kind. A rule begins with 1.
     SetChooseleafTries(u8),
+    /// What the replica number of a bucket adds to that of its leaf, 0 to 4, in each later choose step that packs: up
+    /// to the next step of this kind. A rule begins with 1.
+    SetChooseleafVaryR(u8),
+    /// Whether leaves are sought in the same way however many items are chosen already, 0 or 1, in each later choose
+    /// step that packs: up to the next step of this kind. A rule begins with 1.
+    SetChooseleafStable(u8),
     /// Begins a block with the bucket of an id, -1 to -65,536.
     Take(i32),
     /// Puts in place of each bucket worked on the items chosen below it.

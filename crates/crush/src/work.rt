@@ -11,7 +11,7 @@ use std::marker::Model;
 /// What a run has come to, and the lists that it works in.
 #[derive(Debug, Drop)]
 pub(crate) struct Lists {
-    /// How often the next choose steps try.
+    /// How the next choose steps try.
     pub tries: Tries,
     /// What the next step works on.
     pub working: Vec<Option<i32>>,
@@ -27,9 +27,15 @@ pub(crate) struct Lists {
     pub choose_steps: u64,
 }
 
-/// How often the choose steps of a rule try that sets no tries: 50 tries after the first one (Ceph's
-/// `choose_total_tries`), and one for a leaf (`chooseleaf_descend_once`).
-pub(crate) const FIRST_TRIES: Tries = Tries { total: 51, leaf: 1 };
+/// How the choose steps of a rule try that sets none of it, as the tunables called jewel have it: 50 tries after the
+/// first one (Ceph's `choose_total_tries`), and one for a leaf (`chooseleaf_descend_once`), from the replica number of
+/// its bucket on (`chooseleaf_vary_r`, `chooseleaf_stable`).
+pub(crate) const FIRST_TRIES: Tries = Tries {
+    total: 51,
+    leaf: 1,
+    vary: 1,
+    stable: 1,
+};
 
 /// What the last run left, the numbers of runs and of choose steps, and the room that runs work in. It serves any
 /// forest.

@@ -128,6 +128,8 @@ tries_kept : (w : World) (size : ℕ) (p : Progress) (x : Step) → sets_tries x
 unfolding after_step
 tries_kept w size p (step.SetChooseTries n) h = refl
 tries_kept w size p (step.SetChooseleafTries n) h = refl
+tries_kept w size p (step.SetChooseleafVaryR n) h = refl
+tries_kept w size p (step.SetChooseleafStable n) h = refl
 tries_kept w size p (step.Take id) h = refl
 tries_kept w size p (step.Choose c) h = refl
 tries_kept w size p step.Emit h = absurd (false≢true h)

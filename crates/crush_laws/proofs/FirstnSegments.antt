@@ -13,7 +13,7 @@ use Rattle.crush.specs.declared.choose.Picked.{Picked}
 use Rattle.crush.specs.Choosing.{Choosing}
 use Rattle.crush.specs.World.{is_out}
 use Rattle.crush.specs.Descent.{leaf_below, item_below}
-use Rattle.crush.specs.Firstn.{numbers_from, is_free, attempt_with, attempt_at, attempt_of, is_failed, replica_of, with_attempt, after_replica, firstn}
+use Rattle.crush.specs.Firstn.{numbers_from, is_free, leaf_number, attempt_with, attempt_at, attempt_of, is_failed, replica_of, with_attempt, after_replica, firstn}
 use Rattle.crush_laws.specs.Choices.{takes_devices, IsSegment, FirstnIsSegment}
 use Rattle.crush.proofs.Folds.{fold_keeps}
 use Rattle.crush.proofs.ItemTries.{attempt_by, chosen_by, first_of}
@@ -30,10 +30,10 @@ record IsFresh (k : Choosing) (chosen : List Choice) (e : Choice) : Type 0 where
 fresh_with : (k : Choosing) (chosen : List Choice) (r : ℕ) (item : ℤ) (e : Choice) → attempt_with k chosen r item ≡ Chosen e → IsFresh k chosen e
 unfolding attempt_with attempt_by
 fresh_with k chosen r item e h =
-    let found = leaf_below k.world (is_free k.world chosen) (numbers_from r k.tries.leaf) item in
+    let found = leaf_below k.world (is_free k.world chosen) (numbers_from (leaf_number k.tries (length chosen) r) k.tries.leaf) item in
     let is = chosen_by (list_any (λ o. int_eq o.item item) chosen) k.choose.to_leaf (eqb k.choose.level 0 && is_out k.world item) found item e h in
     let free : k.choose.to_leaf ≡ true → (is_out k.world e.leaf ≡ false) × (list_any (λ o. int_eq o.leaf e.leaf) chosen ≡ false) =
-    λ leafy. neither _ _ (leaf_accepted k.world (is_free k.world chosen) (numbers_from r k.tries.leaf) item e.leaf (is.taken leafy)) in
+    λ leafy. neither _ _ (leaf_accepted k.world (is_free k.world chosen) (numbers_from (leaf_number k.tries (length chosen) r) k.tries.leaf) item e.leaf (is.taken leafy)) in
     record {
       item = ap (λ i. list_any (λ (o : Choice). int_eq o.item i) chosen) (sym is.item_is) ∙ is.apart;
       leaf = λ leafy. (free leafy).1;

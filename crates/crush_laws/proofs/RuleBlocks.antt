@@ -16,6 +16,8 @@ use Rattle.crush_laws.specs.Rules.{steps_of_blocks, IsGrammatical, RulesAreBlock
 emit-is : (x : Step) → is_emit x ≡ true → x ≡ step.Emit
 emit-is (step.SetChooseTries _) e = absurd (false≢true e)
 emit-is (step.SetChooseleafTries _) e = absurd (false≢true e)
+emit-is (step.SetChooseleafVaryR _) e = absurd (false≢true e)
+emit-is (step.SetChooseleafStable _) e = absurd (false≢true e)
 emit-is (step.Take _) e = absurd (false≢true e)
 emit-is (step.Choose _) e = absurd (false≢true e)
 emit-is step.Emit e = refl
@@ -34,6 +36,8 @@ piece-by kind x rest true sets e below = (no_emit x sets, below e)
     no_emit : (y : Step) → sets_tries y ≡ true → is_emit y ≡ false
     no_emit (step.SetChooseTries _) h = refl
     no_emit (step.SetChooseleafTries _) h = refl
+    no_emit (step.SetChooseleafVaryR _) h = refl
+    no_emit (step.SetChooseleafStable _) h = refl
     no_emit (step.Take _) h = refl
     no_emit (step.Choose _) h = refl
     no_emit step.Emit h = absurd (false≢true h)

@@ -2,7 +2,7 @@
 use Rattle.std.proofs.Common.{ℕ, ◌≤◌, ◌++◌, length, arith}
 use Rattle.std.proofs.lemmas.List.{length-take}
 use Rattle.crush.specs.declared.step.Step.{Step}
-use Rattle.crush.specs.declared.step.Step.TheVariants.{SetChooseTries, SetChooseleafTries, Take, Choose as Chooses, Emit}
+use Rattle.crush.specs.declared.step.Step.TheVariants.{SetChooseTries, SetChooseleafTries, SetChooseleafVaryR, SetChooseleafStable, Take, Choose as Chooses, Emit}
 use Rattle.crush.specs.World.{World}
 use Rattle.crush.specs.Run.{Progress, no_progress, after_step, run_of}
 use Rattle.crush_laws.specs.Runs.{RunsFit}
@@ -13,6 +13,8 @@ step_fits : (w : World) (size : ℕ) (p : Progress) (step : Step) → length p.e
 unfolding after_step
 step_fits w size p (SetChooseTries n) fits = fits
 step_fits w size p (SetChooseleafTries n) fits = fits
+step_fits w size p (SetChooseleafVaryR n) fits = fits
+step_fits w size p (SetChooseleafStable n) fits = fits
 step_fits w size p (Take id) fits = fits
 step_fits w size p (Chooses c) fits = fits
 step_fits w size p Emit fits = omega (arith, length-take size (p.emitted ++ p.working))

@@ -3,7 +3,7 @@ use Rattle.std.proofs.Common.{ℕ, ℤ, pos, List, [], ◌∷◌, ◌++◌, Some
 use Rattle.std.specs.List.{All, fold}
 use Rattle.std.proofs.lemmas.List.Elements.{All-head, All-tail, All-append, All-take, All-contains}
 use Rattle.crush.specs.declared.step.Step.{Step}
-use Rattle.crush.specs.declared.step.Step.TheVariants.{SetChooseTries, SetChooseleafTries, Take, Choose as Chooses, Emit}
+use Rattle.crush.specs.declared.step.Step.TheVariants.{SetChooseTries, SetChooseleafTries, SetChooseleafVaryR, SetChooseleafStable, Take, Choose as Chooses, Emit}
 use Rattle.crush.specs.Run.{Progress, no_progress, after_step, run_of}
 use Rattle.crush.specs.World.{World, world_of}
 use Rattle.crush.proofs.DescentsWithin.{AreAlike}
@@ -16,6 +16,8 @@ emitted_in : (R : ℤ → Type 0) (w : World) (size : ℕ) (p : Progress) (step 
 unfolding after_step
 emitted_in R w size p (SetChooseTries n) all out = out
 emitted_in R w size p (SetChooseleafTries n) all out = out
+emitted_in R w size p (SetChooseleafVaryR n) all out = out
+emitted_in R w size p (SetChooseleafStable n) all out = out
 emitted_in R w size p (Take id) all out = out
 emitted_in R w size p (Chooses c) all out = out
 emitted_in R w size p Emit all out = All-take (IsIn R) size (p.emitted ++ p.working) (All-append (IsIn R) p.emitted p.working out all)

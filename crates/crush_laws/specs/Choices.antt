@@ -47,7 +47,7 @@ IndepIsPositions = (k : Choosing) (start : Bucket) (count : ℕ) → ArePosition
 
 -- a choosing with another number of rounds
 abbrev pub in_rounds : Choosing → ℕ → Choosing
-in_rounds k rounds = record k { tries = record { total = rounds; leaf = k.tries.leaf } }
+in_rounds k rounds = record k { tries = record k.tries { total = rounds } }
 
 -- a position that is decided after some rounds is as it is after any more
 abbrev pub IndepKeepsPositions : Type 0

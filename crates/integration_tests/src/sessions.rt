@@ -53,6 +53,8 @@ impl Sink for Slow {
 
     ghost holds_back = { λ _. false };
 
+    ghost is_filled = { λ _. false };
+
     fn write(&mut self, bytes: &[u8]) -> Result<usize, WriteFailed> {
         self.again = self.failed;
         let taken = bytes.len().min(3);

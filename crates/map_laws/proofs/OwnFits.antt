@@ -97,6 +97,8 @@ step_fine : (s : Step) → step_limits_ok s ≡ true → step_fits (step_part s)
 unfolding step_fits
 step_fine (step.SetChooseTries n) h = natural_fits 1 200 n (grind (arith, nat_tests, h)) (grind (arith, nat_tests, h))
 step_fine (step.SetChooseleafTries n) h = natural_fits 1 200 n (grind (arith, nat_tests, h)) (grind (arith, nat_tests, h))
+step_fine (step.SetChooseleafVaryR n) h = natural_fits 0 4 n (omega arith) (grind (arith, nat_tests, h))
+step_fine (step.SetChooseleafStable n) h = natural_fits 0 1 n (omega arith) (grind (arith, nat_tests, h))
 step_fine (step.Take id) h = h
 step_fine (step.Choose c) h =
     let count = natural_fits 0 20 c.count (omega arith) (grind (arith, nat_tests, h)) in

@@ -17,7 +17,7 @@ use Rattle.mapparts.specs.declared.parts.BucketPart.{BucketPart}
 use Rattle.mapparts.specs.declared.parts.ItemPart.{ItemPart}
 use Rattle.mapparts.specs.declared.parts.RulePart.{RulePart}
 use Rattle.mapparts.specs.declared.parts.StepPart.{StepPart}
-use Rattle.mapparts.specs.declared.parts.StepPart.TheVariants.{SetChooseTries, SetChooseleafTries, Take, Choose as Chooses, Emit}
+use Rattle.mapparts.specs.declared.parts.StepPart.TheVariants.{SetChooseTries, SetChooseleafTries, SetChooseleafVaryR, SetChooseleafStable, Take, Choose as Chooses, Emit}
 use Rattle.mapparts.specs.declared.parts.PoolPart.{PoolPart}
 use Rattle.mapparts.specs.declared.parts.GrowPart.{GrowPart}
 use Rattle.mapparts.specs.declared.parts.CrushParts.{CrushParts}
@@ -25,7 +25,7 @@ use Rattle.mapparts.specs.declared.parts.ExceptionPart.{ExceptionPart}
 use Rattle.mapparts.specs.declared.parts.PairPart.{PairPart}
 use Rattle.mapparts.specs.declared.pg_parts.PgParts.{PgParts}
 use Rattle.mapparts.specs.Parts.{is_between, has_between, is_osd_id, item_fits, bucket_fits, step_fits, rule_fits, crush_fits, pool_fits, growth_fits, pg_fits, pair_fits, exception_fits, exceptions_fit}
-use Rattle.mapparts.specs.Profiles.{is_stock, is_plain_kind}
+use Rattle.mapparts.specs.Profiles.{is_stock, is_plain_kind, is_plain_word}
 use Rattle.mapparts.specs.Plain.{osd_is_plain, pool_is_plain, growth_is_plain, bucket_is_plain, step_is_plain, crush_is_plain, pair_is_plain, exception_is_plain}
 use Rattle.mapparts.proofs.Within.{natural_between, pool_fits_each, growth_fits_each}
 use Rattle.maptypes.specs.CrushMaps.{CrushFacts}
@@ -100,6 +100,8 @@ step_back : (s : StepPart) → step_fits s ≡ true → step_part (step_of s) �
 unfolding step_fits
 step_back (SetChooseTries n) h = ap (λ z. SetChooseTries z) (natural_back 1 200 n h)
 step_back (SetChooseleafTries n) h = ap (λ z. SetChooseleafTries z) (natural_back 1 200 n h)
+step_back (SetChooseleafVaryR n) h = ap (λ z. SetChooseleafVaryR z) (natural_back 0 4 n h)
+step_back (SetChooseleafStable n) h = ap (λ z. SetChooseleafStable z) (natural_back 0 1 n h)
 step_back (Take id) h = refl
 step_back (Chooses c) h =
     let each = and_parts (is_between (pos 0) (pos 20) c.count) (is_between (pos 0) (pos 15) c.level) h in
@@ -223,12 +225,15 @@ crush_plain (Some p) (Some q) moved = rw (
   list_all-moved (λ (r : RulePart). list_all step_is_plain r.steps) p.rules q.rules moved.1,
 ) refl
 
--- and have kinds of a profile alike
+-- and have kinds and steps of a profile alike
 crush_kinds : (profile : Profile) (a b : Option CrushParts) → IsCrushMoved a b → brings_kinds profile b ≡ brings_kinds profile a
 crush_kinds profile None None moved = refl
 crush_kinds profile None (Some q) moved = absurd moved
 crush_kinds profile (Some p) None moved = absurd moved
-crush_kinds Plain (Some p) (Some q) moved = list_all-moved (λ (b : BucketPart). is_plain_kind b.kind) p.buckets q.buckets moved.0
+crush_kinds Plain (Some p) (Some q) moved = rw (
+  list_all-moved (λ (b : BucketPart). is_plain_kind b.kind) p.buckets q.buckets moved.0,
+  list_all-moved (λ (r : RulePart). list_all is_plain_word r.steps) p.rules q.rules moved.1,
+) refl
 crush_kinds Stock (Some p) (Some q) moved = refl
 
 -- ---- the change

@@ -35,6 +35,8 @@ bucket_own b = rw (map_own item_of item_part item_own b.items) refl
 pub step_own : (s : RuleStep) → step_of (step_part s) ≡ s
 step_own (step.SetChooseTries n) = refl
 step_own (step.SetChooseleafTries n) = refl
+step_own (step.SetChooseleafVaryR n) = refl
+step_own (step.SetChooseleafStable n) = refl
 step_own (step.Take id) = refl
 step_own (step.Choose c) = refl
 step_own step.Emit = refl

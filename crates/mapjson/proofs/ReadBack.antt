@@ -13,13 +13,13 @@ use Rattle.mapparts.specs.declared.parts.BucketPart.{BucketPart}
 use Rattle.mapparts.specs.declared.parts.ItemPart.{ItemPart}
 use Rattle.mapparts.specs.declared.parts.RulePart.{RulePart}
 use Rattle.mapparts.specs.declared.parts.StepPart.{StepPart}
-use Rattle.mapparts.specs.declared.parts.StepPart.TheVariants.{SetChooseTries, SetChooseleafTries, Take, Choose, Emit}
+use Rattle.mapparts.specs.declared.parts.StepPart.TheVariants.{SetChooseTries, SetChooseleafTries, SetChooseleafVaryR, SetChooseleafStable, Take, Choose, Emit}
 use Rattle.mapparts.specs.declared.parts.PoolPart.{PoolPart}
 use Rattle.mapparts.specs.declared.parts.OsdPart.{OsdPart}
 use Rattle.mapparts.specs.declared.parts.ExceptionPart.{ExceptionPart}
 use Rattle.mapparts.specs.declared.parts.PairPart.{PairPart}
 use Rattle.jsonstream.specs.Json.{whole_number, stated_list}
-use Rattle.partjson.specs.StatedMaps.{stated_item, bucket_kind_of, stated_bucket, rule_kind_of, stated_step, step_by, take_of, choose_of, emit_of, tries_of, leaf_tries_of, stated_rule, stated_pool, osd_of, stated_pair, stated_exception, map_of, in_its_version, stated_map}
+use Rattle.partjson.specs.StatedMaps.{stated_item, bucket_kind_of, stated_bucket, rule_kind_of, stated_step, step_by, take_of, choose_of, emit_of, tries_of, leaf_tries_of, leaf_vary_of, leaf_stable_of, stated_rule, stated_pool, osd_of, stated_pair, stated_exception, map_of, in_its_version, stated_map}
 use Rattle.mapjson.specs.Written.{number_data, list_data, item_data, kind_word, bucket_data, use_word, step_data, rule_data, pool_data, osd_data, IsNamed, AreNamed, pair_data, exception_data, map_data}
 
 -- ---- values
@@ -76,9 +76,11 @@ choose_back Indep true count level = rw (number_back count, number_back level)
 
 -- a step reads back as itself
 step_back : (s : StepPart) → stated_step (step_data s) ≡ Some s
-unfolding stated_step step_by take_of choose_of emit_of tries_of leaf_tries_of step_data
+unfolding stated_step step_by take_of choose_of emit_of tries_of leaf_tries_of leaf_vary_of leaf_stable_of step_data
 step_back (SetChooseTries tries) = rw (number_back tries)
 step_back (SetChooseleafTries tries) = rw (number_back tries)
+step_back (SetChooseleafVaryR tries) = rw (number_back tries)
+step_back (SetChooseleafStable tries) = rw (number_back tries)
 step_back (Take id) = rw (number_back id)
 step_back (Choose c) = choose_back c.mode c.to_leaf c.count c.level
 step_back Emit = refl

@@ -22,7 +22,7 @@ use Rattle.mapparts.specs.declared.parts.BucketPart.{BucketPart}
 use Rattle.mapparts.specs.declared.parts.ItemPart.{ItemPart}
 use Rattle.mapparts.specs.declared.parts.RulePart.{RulePart}
 use Rattle.mapparts.specs.declared.parts.StepPart.{StepPart}
-use Rattle.mapparts.specs.declared.parts.StepPart.TheVariants.{SetChooseTries, SetChooseleafTries, Take, Choose, Emit}
+use Rattle.mapparts.specs.declared.parts.StepPart.TheVariants.{SetChooseTries, SetChooseleafTries, SetChooseleafVaryR, SetChooseleafStable, Take, Choose, Emit}
 use Rattle.mapparts.specs.declared.parts.PoolPart.{PoolPart}
 use Rattle.mapparts.specs.declared.parts.OsdPart.{OsdPart}
 use Rattle.mapparts.specs.declared.parts.ExceptionPart.{ExceptionPart}
@@ -124,6 +124,8 @@ step_readable : (s : StepPart) → step_fits s ≡ true → IsReadable (step_dat
 unfolding step_fits step_data
 step_readable (SetChooseTries tries) h = (refl, (number_between (pos 1) (pos 200) tries tt (omega arith) h, tt))
 step_readable (SetChooseleafTries tries) h = (refl, (number_between (pos 1) (pos 200) tries tt (omega arith) h, tt))
+step_readable (SetChooseleafVaryR vary) h = (refl, (number_between (pos 0) (pos 4) vary tt (omega arith) h, tt))
+step_readable (SetChooseleafStable stable) h = (refl, (number_between (pos 0) (pos 1) stable tt (omega arith) h, tt))
 step_readable (Take id) h = (refl, (id_readable id h, tt))
 step_readable (Choose c) h =
     let p = and_parts (is_between (pos 0) (pos 20) c.count) _ h in (

@@ -7,7 +7,7 @@ use Rattle.mapparts.specs.declared.parts.BucketPart.{BucketPart}
 use Rattle.mapparts.specs.declared.parts.ItemPart.{ItemPart}
 use Rattle.mapparts.specs.declared.parts.RulePart.{RulePart}
 use Rattle.mapparts.specs.declared.parts.StepPart.{StepPart}
-use Rattle.mapparts.specs.declared.parts.StepPart.TheVariants.{SetChooseTries, SetChooseleafTries, Take, Choose, Emit}
+use Rattle.mapparts.specs.declared.parts.StepPart.TheVariants.{SetChooseTries, SetChooseleafTries, SetChooseleafVaryR, SetChooseleafStable, Take, Choose, Emit}
 use Rattle.mapparts.specs.declared.parts.PoolPart.{PoolPart}
 use Rattle.mapparts.specs.declared.parts.OsdPart.{OsdPart}
 use Rattle.mapparts.specs.declared.parts.ExceptionPart.{ExceptionPart}
@@ -40,6 +40,8 @@ step_whole : (s : StepPart) → has_float (step_data s) ≡ false
 unfolding step_data
 step_whole (SetChooseTries tries) = rw (number_whole tries)
 step_whole (SetChooseleafTries tries) = rw (number_whole tries)
+step_whole (SetChooseleafVaryR tries) = rw (number_whole tries)
+step_whole (SetChooseleafStable tries) = rw (number_whole tries)
 step_whole (Take id) = rw (number_whole id)
 step_whole (Choose c) = rw (number_whole c.count, number_whole c.level)
 step_whole Emit = refl
@@ -104,6 +106,8 @@ step_flat : (s : StepPart) → depth (step_data s) ≤ 1
 unfolding step_data
 step_flat (SetChooseTries tries) = omega arith
 step_flat (SetChooseleafTries tries) = omega arith
+step_flat (SetChooseleafVaryR tries) = omega arith
+step_flat (SetChooseleafStable tries) = omega arith
 step_flat (Take id) = omega arith
 step_flat (Choose c) = omega arith
 step_flat Emit = omega arith

@@ -14,6 +14,8 @@ use Rattle.partjson.specs.StatedMaps.{states_tries, in_its_version}
 step_same : (s : Step) → states_tries (step_part s) ≡ grammar.sets_tries s
 step_same (step.SetChooseTries n) = refl
 step_same (step.SetChooseleafTries n) = refl
+step_same (step.SetChooseleafVaryR n) = refl
+step_same (step.SetChooseleafStable n) = refl
 step_same (step.Take id) = refl
 step_same (step.Choose c) = refl
 step_same step.Emit = refl

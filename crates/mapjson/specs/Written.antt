@@ -16,7 +16,7 @@ use Rattle.mapparts.specs.declared.parts.BucketPart.{BucketPart}
 use Rattle.mapparts.specs.declared.parts.ItemPart.{ItemPart}
 use Rattle.mapparts.specs.declared.parts.RulePart.{RulePart}
 use Rattle.mapparts.specs.declared.parts.StepPart.{StepPart}
-use Rattle.mapparts.specs.declared.parts.StepPart.TheVariants.{SetChooseTries, SetChooseleafTries, Take, Choose, Emit}
+use Rattle.mapparts.specs.declared.parts.StepPart.TheVariants.{SetChooseTries, SetChooseleafTries, SetChooseleafVaryR, SetChooseleafStable, Take, Choose, Emit}
 use Rattle.mapparts.specs.declared.parts.PoolPart.{PoolPart}
 use Rattle.mapparts.specs.declared.parts.OsdPart.{OsdPart}
 use Rattle.mapparts.specs.declared.parts.ExceptionPart.{ExceptionPart}
@@ -89,6 +89,8 @@ choose_word Indep true = codes "chooseleaf_indep"
 unfoldable pub step_data : StepPart → Data
 step_data (SetChooseTries tries) = list_of (string (codes "set_choose_tries") ∷ number_data tries ∷ [])
 step_data (SetChooseleafTries tries) = list_of (string (codes "set_chooseleaf_tries") ∷ number_data tries ∷ [])
+step_data (SetChooseleafVaryR vary) = list_of (string (codes "set_chooseleaf_vary_r") ∷ number_data vary ∷ [])
+step_data (SetChooseleafStable stable) = list_of (string (codes "set_chooseleaf_stable") ∷ number_data stable ∷ [])
 step_data (Take id) = list_of (string (codes "take") ∷ number_data id ∷ [])
 step_data (Choose c) = list_of (string (choose_word c.mode c.to_leaf) ∷ number_data c.count ∷ number_data c.level ∷ [])
 step_data Emit = list_of (string (codes "emit") ∷ [])

@@ -9,7 +9,7 @@ use Rattle.mapparts.specs.declared.parts.BucketPart.{BucketPart}
 use Rattle.mapparts.specs.declared.parts.ItemPart.{ItemPart}
 use Rattle.mapparts.specs.declared.parts.RulePart.{RulePart}
 use Rattle.mapparts.specs.declared.parts.StepPart.{StepPart}
-use Rattle.mapparts.specs.declared.parts.StepPart.TheVariants.{SetChooseTries, SetChooseleafTries, Take, Choose as Chooses, Emit}
+use Rattle.mapparts.specs.declared.parts.StepPart.TheVariants.{SetChooseTries, SetChooseleafTries, SetChooseleafVaryR, SetChooseleafStable, Take, Choose as Chooses, Emit}
 use Rattle.mapparts.specs.declared.parts.PoolPart.{PoolPart}
 use Rattle.mapparts.specs.declared.parts.OsdPart.{OsdPart}
 use Rattle.mapparts.specs.declared.parts.ExceptionPart.{ExceptionPart}
@@ -20,7 +20,7 @@ use Rattle.mapparts.specs.declared.pg_parts.PgParts.{PgParts}
 use Rattle.refusal.specs.declared.refused.Refusal.{Refusal}
 use Rattle.refusal.specs.declared.refused.Refusal.TheVariants.{BadLimit, BadPool}
 use Rattle.refusal.specs.Outcomes.{refused_unless}
-use Rattle.crush.specs.Limits.{max_buckets, max_steps, max_tries, max_count, max_size}
+use Rattle.crush.specs.Limits.{max_buckets, max_steps, max_tries, max_vary, max_stable, max_count, max_size}
 use Rattle.buckets.specs.Limits.{lowest_bucket, max_level, max_devices}
 use Rattle.mapparts.specs.Limits.{max_version, max_first_epoch, max_osd_id, max_item_weight, max_rules, max_rule_id, max_pools, max_pool_id, max_groups, max_total_groups, max_entries}
 use Rattle.crush.specs.Limits.{full_weight}
@@ -46,6 +46,8 @@ bucket_fits b =
 unfoldable pub step_fits : StepPart → Bool
 step_fits (SetChooseTries tries) = is_between (pos 1) (pos max_tries) tries
 step_fits (SetChooseleafTries tries) = is_between (pos 1) (pos max_tries) tries
+step_fits (SetChooseleafVaryR vary) = is_between (pos 0) (pos max_vary) vary
+step_fits (SetChooseleafStable stable) = is_between (pos 0) (pos max_stable) stable
 step_fits (Take id) = is_bucket_id id
 step_fits (Chooses c) = is_between (pos 0) (pos max_count) c.count && is_between (pos 0) (pos max_level) c.level
 step_fits Emit = true

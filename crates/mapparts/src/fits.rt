@@ -9,7 +9,7 @@ ghost use Rattle.mapparts.specs.Limits.{max_rules, max_first_epoch};
 use crate::exceptions::exceptions_fit;
 use crate::limits::{
     FULL_WEIGHT, LOWEST_BUCKET, MAX_COUNT, MAX_FIRST_EPOCH, MAX_ITEM_WEIGHT, MAX_LEVEL, MAX_OSDS,
-    MAX_POOLS, MAX_RULE_ID, MAX_RULES, MAX_TRIES, MAX_VERSION,
+    MAX_POOLS, MAX_RULE_ID, MAX_RULES, MAX_STABLE, MAX_TRIES, MAX_VARY, MAX_VERSION,
 };
 use crate::numbers::{has_between, is_between, is_bucket_id};
 use crate::parts::{
@@ -73,6 +73,8 @@ impl Limited for StepPart {
         match self {
             StepPart::SetChooseTries(tries) => is_between(1, MAX_TRIES, *tries),
             StepPart::SetChooseleafTries(tries) => is_between(1, MAX_TRIES, *tries),
+            StepPart::SetChooseleafVaryR(vary) => is_between(0, MAX_VARY, *vary),
+            StepPart::SetChooseleafStable(stable) => is_between(0, MAX_STABLE, *stable),
             StepPart::Take(id) => is_bucket_id(*id),
             StepPart::Choose(choose) => is_between(0, MAX_COUNT, choose.count)
                 && is_between(0, MAX_LEVEL, choose.level),

@@ -26,6 +26,10 @@ pub const MAX_RULE_ID: i128 = 255;
 pub const MAX_COUNT: i128 = limits::MAX_COUNT as i128;
 /// The most tries that a step of a rule sets. The least is 1.
 pub const MAX_TRIES: i128 = limits::MAX_TRIES as i128;
+/// The greatest number that a step of `chooseleaf_vary_r` sets.
+pub const MAX_VARY: i128 = limits::MAX_VARY as i128;
+/// The greatest number that a step of `chooseleaf_stable` sets.
+pub const MAX_STABLE: i128 = limits::MAX_STABLE as i128;
 /// The greatest size of a pool.
 pub const MAX_SIZE: i128 = limits::MAX_SIZE as i128;
 /// How many places a set of a group has at most, and so how many entries an exception.

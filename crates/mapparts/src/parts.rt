@@ -68,6 +68,12 @@ pub enum StepPart {
     SetChooseTries(i128),
     /// How often later choose steps try for a leaf: 1 to 200. A map's text has it in version 2 alone.
     SetChooseleafTries(i128),
+    /// What the replica number of a bucket adds to that of its leaf: 0 to 4. A stock map's text has it, in version 2
+    /// alone.
+    SetChooseleafVaryR(i128),
+    /// Whether leaves are sought in the same way however many items are chosen: 0 or 1. A stock map's text has it, in
+    /// version 2 alone.
+    SetChooseleafStable(i128),
     /// A bucket: -1 down to -65,536.
     Take(i128),
     /// Some items below each of those chosen before.

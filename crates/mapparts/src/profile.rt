@@ -2,19 +2,21 @@
 
 ghost use Rattle.std.specs.Prelude.{◌≡◌};
 ghost use Rattle.std.specs.List.{list_all};
-ghost use Rattle.mapparts.specs.Profiles.{is_plain_kind, are_plain_kinds};
+ghost use Rattle.mapparts.specs.Profiles.{is_plain_kind, are_plain_kinds, is_plain_word, are_plain_words};
 
 use crate::limits::MAX_POOLS;
-use crate::parts::BucketPart;
+use crate::parts::{BucketPart, RulePart, StepPart};
 use crate::plain::PLAIN_POOLS;
 use buckets::BucketKind;
 
 /// Which maps and changes texts may state.
 #[derive(Clone, Copy, Debug, PartialEq, Eq)]
 pub enum Profile {
-    /// Those with uniform, list and tree buckets, within the limits of plain clusters.
+    /// Those with uniform, list and tree buckets, whose rules seek leaves as Ceph's jewel does, within the limits of
+    /// plain clusters.
     Plain,
-    /// Those of stock Ceph clusters: straw2 buckets too, within the limits of all maps.
+    /// Those of stock Ceph clusters: straw2 buckets too, and steps that set how leaves are sought, within the limits of
+    /// all maps.
     Stock,
 }
 
@@ -35,9 +37,37 @@ fn are_plain_kinds(buckets: &[BucketPart]) -> bool
     buckets.iter().all(|bucket| is_plain_kind(bucket.kind))
 }
 
+/// Whether each profile has such a step.
+fn is_plain_word(step: &StepPart) -> bool
+    ensures { result ≡ is_plain_word step.now }
+{
+    match step {
+        StepPart::SetChooseTries(_)
+        | StepPart::SetChooseleafTries(_)
+        | StepPart::Take(_)
+        | StepPart::Choose(_)
+        | StepPart::Emit => true,
+        StepPart::SetChooseleafVaryR(_) | StepPart::SetChooseleafStable(_) => false,
+    }
+}
+
+/// Whether each profile has all steps of a rule.
+fn has_plain_words(rule: &RulePart) -> bool
+    ensures { result ≡ list_all is_plain_word rule.now.steps }
+{
+    rule.steps.iter().all(|step| is_plain_word(step))
+}
+
+/// Whether each profile has all steps of these rules.
+fn are_plain_words(rules: &[RulePart]) -> bool
+    ensures { result ≡ are_plain_words rules.now }
+{
+    rules.iter().all(|rule| has_plain_words(rule))
+}
+
 impl Profile {
     ghost use Rattle.std.specs.Prelude.{◌≡◌};
-    ghost use Rattle.mapparts.specs.Profiles.{is_stock, most_pools, has_kinds};
+    ghost use Rattle.mapparts.specs.Profiles.{is_stock, most_pools, has_kinds, has_words};
 
     /// Whether the limits are those of stock clusters.
     pub fn is_stock(self) -> bool
@@ -65,6 +95,16 @@ impl Profile {
     {
         match self {
             Profile::Plain => are_plain_kinds(buckets),
+            Profile::Stock => true,
+        }
+    }
+
+    /// Whether the profile has all steps of these rules.
+    pub fn has_words(self, rules: &[RulePart]) -> bool
+        ensures { result ≡ has_words self rules.now }
+    {
+        match self {
+            Profile::Plain => are_plain_words(rules),
             Profile::Stock => true,
         }
     }

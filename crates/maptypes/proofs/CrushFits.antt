@@ -33,6 +33,8 @@ takes_same : (given sorted : List Bucket) → IsForestOf given sorted → (s : S
 takes_same given sorted forest (step.Take id) = rw (forest.found id) refl
 takes_same given sorted forest (step.SetChooseTries n) = refl
 takes_same given sorted forest (step.SetChooseleafTries n) = refl
+takes_same given sorted forest (step.SetChooseleafVaryR n) = refl
+takes_same given sorted forest (step.SetChooseleafStable n) = refl
 takes_same given sorted forest (step.Choose c) = refl
 takes_same given sorted forest step.Emit = refl
 

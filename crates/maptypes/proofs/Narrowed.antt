@@ -10,7 +10,7 @@ use Rattle.mapparts.specs.declared.parts.ItemPart.{ItemPart}
 use Rattle.mapparts.specs.declared.parts.RulePart.{RulePart}
 use Rattle.mapparts.specs.declared.parts.ChoosePart.{ChoosePart}
 use Rattle.mapparts.specs.declared.parts.StepPart.{StepPart}
-use Rattle.mapparts.specs.declared.parts.StepPart.TheVariants.{SetChooseTries, SetChooseleafTries, Take, Choose as Chooses, Emit}
+use Rattle.mapparts.specs.declared.parts.StepPart.TheVariants.{SetChooseTries, SetChooseleafTries, SetChooseleafVaryR, SetChooseleafStable, Take, Choose as Chooses, Emit}
 use Rattle.mapparts.specs.declared.parts.OsdPart.{OsdPart}
 use Rattle.mapparts.specs.Parts.{is_between, has_between, is_osd_id, item_fits, bucket_fits, step_fits, rule_fits, osd_fits}
 use Rattle.maptypes.specs.Values.{item_of, bucket_of, step_of}
@@ -74,6 +74,16 @@ some_tries n h = byte_between 1 200 n (omega arith) h
 pub leaf_tries : (n : ℤ) → step_fits (SetChooseleafTries n) ≡ true → IsTrue (is_between (pos 0) (pos 255) n)
 unfolding step_fits
 leaf_tries n h = byte_between 1 200 n (omega arith) h
+
+-- so has the number by which replica numbers of leaves vary
+pub leaf_vary : (n : ℤ) → step_fits (SetChooseleafVaryR n) ≡ true → IsTrue (is_between (pos 0) (pos 255) n)
+unfolding step_fits
+leaf_vary n h = byte_between 0 4 n (omega arith) h
+
+-- and whether they are stable
+pub leaf_stable : (n : ℤ) → step_fits (SetChooseleafStable n) ≡ true → IsTrue (is_between (pos 0) (pos 255) n)
+unfolding step_fits
+leaf_stable n h = byte_between 0 1 n (omega arith) h
 
 -- what a step that fits takes has 32 bits
 pub take_id : (id : ℤ) → step_fits (Take id) ≡ true → IsTrue (is_between (negsuc 65535) (pos 4095) id)
@@ -172,6 +182,8 @@ step_within : (s : StepPart) → step_fits s ≡ true → step_limits_ok (step_o
 unfolding step_fits
 step_within (SetChooseTries n) h = level_within 1 200 n h
 step_within (SetChooseleafTries n) h = level_within 1 200 n h
+step_within (SetChooseleafVaryR n) h = let most = (natural_between 0 4 n h).most in grind (arith, nat_tests, most)
+step_within (SetChooseleafStable n) h = let most = (natural_between 0 1 n h).most in grind (arith, nat_tests, most)
 step_within (Take id) h = h
 step_within (Chooses c) h =
     let count = (natural_between 0 20 c.count (grind arith)).most in

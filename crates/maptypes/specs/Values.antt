@@ -3,13 +3,13 @@ use Rattle.std.specs.Prelude.{nat_abs, unwrap_or, map}
 use Rattle.buckets.specs.declared.bucket.Item.{Item}
 use Rattle.buckets.specs.declared.bucket.Bucket.{Bucket}
 use Rattle.crush.specs.declared.step.Step.{Step}
-use Rattle.crush.specs.declared.step.Step.TheVariants.{SetChooseTries as TryFor, SetChooseleafTries as TryForLeaves, Take as TakeBucket, Choose as ChooseBy, Emit as EmitAll}
+use Rattle.crush.specs.declared.step.Step.TheVariants.{SetChooseTries as TryFor, SetChooseleafTries as TryForLeaves, SetChooseleafVaryR as VaryLeaves, SetChooseleafStable as SettleLeaves, Take as TakeBucket, Choose as ChooseBy, Emit as EmitAll}
 use Rattle.crush.specs.Rules.{Recipe}
 use Rattle.mapparts.specs.declared.parts.BucketPart.{BucketPart}
 use Rattle.mapparts.specs.declared.parts.ItemPart.{ItemPart}
 use Rattle.mapparts.specs.declared.parts.RulePart.{RulePart}
 use Rattle.mapparts.specs.declared.parts.StepPart.{StepPart}
-use Rattle.mapparts.specs.declared.parts.StepPart.TheVariants.{SetChooseTries, SetChooseleafTries, Take, Choose as Chooses, Emit}
+use Rattle.mapparts.specs.declared.parts.StepPart.TheVariants.{SetChooseTries, SetChooseleafTries, SetChooseleafVaryR, SetChooseleafStable, Take, Choose as Chooses, Emit}
 use Rattle.mapparts.specs.declared.parts.PoolPart.{PoolPart}
 use Rattle.mapparts.specs.declared.parts.GrowPart.{GrowPart}
 use Rattle.mapparts.specs.declared.parts.ExceptionPart.{ExceptionPart}
@@ -31,6 +31,8 @@ bucket_of b = record { id = b.id; level = nat_abs b.level; kind = b.kind; items 
 abbrev pub step_of : StepPart → Step
 step_of (SetChooseTries tries) = TryFor (nat_abs tries)
 step_of (SetChooseleafTries tries) = TryForLeaves (nat_abs tries)
+step_of (SetChooseleafVaryR vary) = VaryLeaves (nat_abs vary)
+step_of (SetChooseleafStable stable) = SettleLeaves (nat_abs stable)
 step_of (Take id) = TakeBucket id
 step_of (Chooses c) =
     ChooseBy (record { mode = c.mode; to_leaf = c.to_leaf; count = nat_abs c.count; level = nat_abs c.level })

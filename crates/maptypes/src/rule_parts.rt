@@ -18,6 +18,8 @@ fn step_of(part: &StepPart) -> Step
     match part {
         StepPart::SetChooseTries(tries) => Step::SetChooseTries(byte(*tries)),
         StepPart::SetChooseleafTries(tries) => Step::SetChooseleafTries(byte(*tries)),
+        StepPart::SetChooseleafVaryR(vary) => Step::SetChooseleafVaryR(byte(*vary)),
+        StepPart::SetChooseleafStable(stable) => Step::SetChooseleafStable(byte(*stable)),
         StepPart::Take(bucket) => Step::Take(item_id(*bucket)),
         StepPart::Choose(choose) => Step::Choose(Choose {
             mode: choose.mode,

@@ -1,7 +1,7 @@
 -- Balancing: what is answered by a state is answered by its journal.
 use Rattle.std.proofs.Common.{◌≡◌, ◌≢◌, ◌∙◌, Bool, true, false, IfErr, sym, ap, subst, ℕ, ◌+◌, List, [], ◌∷◌, ◌++◌, length, Option, Some, None, Result, Ok, Err, inl, inr}
 use Rattle.refusal.specs.declared.refused.Refusal.{Refusal}
-use Rattle.refusal.specs.declared.refused.Refusal.TheVariants.{UnknownPool, BalanceRule, Memory as OutOfMemory, SeatSpent, NotSealed}
+use Rattle.refusal.specs.declared.refused.Refusal.TheVariants.{UnknownPool, BalanceRule, Memory as OutOfMemory, SeatSpent}
 use Rattle.refusal.specs.Outcomes.{refused_unless}
 use Rattle.maptypes.specs.declared.change.ChangeParts.{ChangeParts}
 use Rattle.maptypes.specs.Incrementals.{Step}

@@ -1,5 +1,5 @@
 -- Histories: what goes on from them, and what is answered by them.
-use Rattle.std.proofs.Common.{◌≡◌, ◌≢◌, ◌∙◌, IfErr, arith, sym, ap, subst, ℕ, ◌+◌, List, [], ◌∷◌, ◌++◌, length, Option, Some, None, Result, Ok, Err, inl, inr}
+use Rattle.std.proofs.Common.{◌≡◌, ◌≢◌, ◌∙◌, IfErr, arith, sym, ap, subst, ℕ, ◌+◌, List, [], ◌∷◌, ◌++◌, length, Result, Ok, Err, inl, inr}
 use Rattle.refusal.specs.declared.refused.Refusal.{Refusal}
 use Rattle.refusal.specs.Refusals.{number_of}
 use Rattle.refusal.specs.declared.refused.Refusal.TheVariants.{Memory as OutOfMemory, SeatSpent, NotSealed, NotStored}
@@ -7,11 +7,11 @@ use Rattle.maptypes.specs.declared.change.ChangeParts.{ChangeParts}
 use Rattle.maptypes.specs.Incrementals.{Step}
 use Rattle.osdmap.specs.Maps.{ClusterMap}
 use Rattle.osdmap.specs.Evals.{evals_of}
-use Rattle.osdmap.specs.Changes.{IsLawful, after, epoch_after, change_fault}
+use Rattle.osdmap.specs.Changes.{IsLawful, after, epoch_after}
 use Rattle.epochlog.specs.Epochs.{Begins}
 use Rattle.sealed.proofs.Beginnings.{begins_itself, begins_on}
 use Rattle.state.specs.declared.state.Commit.{Commit}
-use Rattle.state.specs.States.{StateFacts, ran, committed, next_step, commit_fault, fault_in, unless, IsRefusedBy, Commits as TakesCommit}
+use Rattle.state.specs.States.{StateFacts, ran, committed, next_step, commit_fault, fault_in, IsRefusedBy, Commits as TakesCommit}
 use Rattle.state.proofs.Journals.{accepted}
 use Rattle.state.proofs.Refusing.{commit_early}
 use Rattle.monitor.specs.Histories.{AnswersCommit, AddsChange}

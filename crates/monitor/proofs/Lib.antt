@@ -3,3 +3,4 @@ pub mod Followers
 pub mod Balancing
 pub mod Within
 mod Making
+mod Counting

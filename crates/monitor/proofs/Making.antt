@@ -1,5 +1,5 @@
 -- Which epoch a commit makes: one of the row's.
-use Rattle.std.proofs.Common.{◌≡◌, ◌≢◌, ◌+◌, ◌<◌, ◌≤◌, ◌==◌, if◌then◌else◌, IfOk, Result, Ok, Err, inl, inr, ℕ, Bool, true, false, not, nat_lt, List, length, Option, Some, None, arith, refl}
+use Rattle.std.proofs.Common.{◌≡◌, ◌≢◌, ◌<◌, ◌==◌, if◌then◌else◌, IfOk, Result, Ok, Err, inl, inr, ℕ, Bool, true, false, not, nat_lt, List, length, Option, Some, None, arith, refl}
 use Rattle.std.proofs.lemmas.Bool.{ltb-true}
 use Rattle.refusal.specs.declared.refused.Refusal.{Refusal}
 use Rattle.refusal.specs.declared.refused.Refusal.TheVariants.{StaleEpoch, JournalFull}

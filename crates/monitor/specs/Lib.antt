@@ -7,3 +7,4 @@ pub mod Balances
 pub mod Sharing
 pub mod Questions
 pub mod Making
+pub mod Ends

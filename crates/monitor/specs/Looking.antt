@@ -4,7 +4,7 @@ use Rattle.ticketlock.specs.Guards.{first_of_read}
 use Rattle.osdmap.specs.Maps.{ClusterMap}
 use Rattle.osdmap.specs.Changes.{IsLawful}
 use Rattle.monitor.specs.declared.look.Look.{Look}
-use Rattle.monitor.specs.Members.{Monitored, Shares}
+use Rattle.monitor.specs.Members.{Monitored, Shares, Knows}
 
 -- the first map of the state that it lends
 abbrev pub first_of_look : {K : Type 0} → Look K → ClusterMap
@@ -17,3 +17,4 @@ pub record IsLookOf {K : Type 0} (monitor : Monitored) (look : Look K) : Type 0 
   pub row : look.pass.row ≡ monitor.row
   pub lawful : IsLawful monitor.first look.pass.history
   pub room : length look.own.items ≡ length monitor.row.cells
+  pub knows : Knows monitor look.seen look.mine look.pass.history

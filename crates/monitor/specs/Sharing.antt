@@ -3,7 +3,7 @@ use Rattle.std.specs.Prelude.{◌≡◌, length}
 use Rattle.osdmap.specs.Changes.{IsLawful}
 use Rattle.monitor.specs.declared.shared.Shared.{Shared}
 use Rattle.monitor.specs.declared.member.Member.{Member}
-use Rattle.monitor.specs.Members.{Monitored, Shares, lent}
+use Rattle.monitor.specs.Members.{Monitored, Shares, Knows, lent}
 
 -- the hold is one of this monitor's lock, for this member: it has seen just what the lent state has, a history that is
 -- lawful from the first map
@@ -13,3 +13,4 @@ pub record IsSharing {K : Type 0} (monitor : Monitored) (shared : Shared K) (mem
   pub row : member.pass.row ≡ monitor.row
   pub lawful : IsLawful monitor.first member.pass.history
   pub room : length member.own.items ≡ length monitor.row.cells
+  pub knows : Knows monitor member.seen member.mine member.pass.history

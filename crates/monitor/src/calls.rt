@@ -1,7 +1,7 @@
 //! What a member commits to its monitor.
 
 use crate::locked::{balance, commit};
-use crate::member::{Member, mark_commit, mark_plan};
+use crate::member::{Member, commits_made, mark_commit, mark_plan, plans_made};
 use crate::monitor::Monitor;
 use balancer::Request;
 use keeping::Keeps;
@@ -49,6 +49,9 @@ impl<K: Keeps + Drop> Monitor<K> {
         let mut guard = self.hold(rt, member)?;
         let state: &mut State<K> = &mut guard.value_mut().state;
         let answer = commit(state, &self.row, &mut member.pass, base, change);
+        guard
+            .value_mut()
+            .count(&mut member.seen, &mut member.mine, commits_made(&answer));
         self.put_back(guard, member);
         mark_commit(&mut member.own, self.first.map().epoch(), &answer);
         answer
@@ -84,6 +87,8 @@ impl<K: Keeps + Drop> Monitor<K> {
         let mut held = self.hold(rt, member)?;
         let state: &mut State<K> = &mut held.value_mut().state;
         let answer = balance(state, &self.row, &mut member.pass, request);
+        held.value_mut()
+            .count(&mut member.seen, &mut member.mine, plans_made(&answer));
         self.put_back(held, member);
         mark_plan(&mut member.own, self.first.map().epoch(), &answer);
         answer

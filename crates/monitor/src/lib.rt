@@ -7,11 +7,13 @@
 //! - `calls`: what a member commits
 //! - `turns`, `locked`: a member's turns at the lock, and what lies under it
 //! - `shared`, `look`: holds of the lock that members share
+//! - `ended`: what a monitor ends with
 //! - `follower`: who reads the row of sealed epochs without the lock
 #![tactic(auto)]
 
 mod asking;
 mod calls;
+mod ended;
 mod follower;
 mod locked;
 mod look;
@@ -24,6 +26,7 @@ mod turns;
 
 pub use balancer::Request;
 pub use cleanup::Remnant;
+pub use ended::Ended;
 pub use follower::Follower;
 pub use keeping::{Keeps, Nothing};
 pub use look::Look;

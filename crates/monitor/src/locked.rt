@@ -1,12 +1,14 @@
 //! What lies under the lock of a monitor.
 
-ghost use Rattle.std.specs.Prelude.{◌≡◌, ◌≢◌, ◌≤◌, true, IfErr, length};
+ghost use Rattle.std.specs.Prelude.{◌≡◌, ◌≢◌, ◌≤◌, ◌+◌, IfErr, IsSome, length};
 ghost use Rattle.refusal.specs.declared.refused.Refusal.TheVariants.{SeatSpent, NotStored};
 ghost use Rattle.osdmap.specs.Changes.{IsLawful, after};
 ghost use Rattle.epochlog.specs.Epochs.{Begins};
 ghost use Rattle.balancer.specs.Requests.{asked_aim};
 ghost use Rattle.monitor.specs.Histories.{AnswersCommit, AddsChange};
 ghost use Rattle.monitor.specs.Balances.{AnswersBalance, AddsPlan};
+ghost use Rattle.monitor.specs.Making.{commits_made, plans_made};
+ghost use Rattle.monitor.specs.Members.{Counts, Matches};
 
 use balancer::Request;
 use epochlog::{Pass, Row};
@@ -14,22 +16,28 @@ use keeping::Keeps;
 use maptypes::Change;
 use refusal::Refusal;
 use state::{Balance, Commit, State};
-use std::sync::Wait;
 use ticketlock::Fact;
+use tip::{Kept, Mine, Seen, Tip};
 
 /// A state under the lock. Each that is lent or put back has the first map of the one that the lock was made with, and
-/// a pass of the same row; what else holds of it holds of every state.
+/// a pass of the same row, and its changes are counted; what else holds of it holds of every state.
 #[derive(Drop)]
 pub(crate) struct Locked<K: Keeps + Drop> {
     pub(crate) state: Box<State<K>>,
+    /// How many changes it has made: there is one such count, so a state that is behind cannot lie here.
+    pub(crate) tip: Tip,
+    /// The same, which the only member knows too, where there is but one.
+    pub(crate) twin: Option<Kept>,
 }
 
 impl<K: Keeps + Drop> Fact for Locked<K> {
     ghost use Rattle.std.specs.Prelude.{◌≡◌};
+    ghost use Rattle.monitor.specs.Members.{Counts, twin_of};
 
     ghost fact = { λ made now.
         (now.state.value.first ≡ made.state.value.first)
-        × (now.state.value.pass.row ≡ made.state.value.pass.row) };
+        × (now.state.value.pass.row ≡ made.state.value.pass.row)
+        × (now.tip.name ≡ made.tip.name) × (twin_of now ≡ twin_of made) × Counts now };
 }
 
 /// A pass that has seen no more than a state sees all that it has.
@@ -45,26 +53,48 @@ pub(crate) fn see<K: Keeps + Drop>(pass: &mut Pass, state: &State<K>)
     let _ = state.map();
 }
 
-/// Returns where a state has seen all that a pass has, and where that is the pass of the only member no more; else
-/// never. Nobody else can have made a change, and none that a member has seen is lost, so it does not wait.
-pub(crate) fn wait_until_seen<R: Wait, K: Keeps + Drop>(
-    rt: &R,
-    state: &State<K>,
-    pass: &Pass,
-    alone: bool,
-)
-    requires row { state.now.pass.row ≡ pass.now.row }
-    ensures seen { length pass.now.history ≤ length state.now.pass.history }
-    ensures alone { alone ≡ true → length pass.now.history ≡ length state.now.pass.history }
+/// That a member has seen no more than a state under the lock, and no less where it is the only one: whoever has the
+/// state has the count of its changes, and there is one such count.
+pub(crate) fn compare<K: Keeps + Drop>(locked: &Locked<K>, seen: &Seen, mine: &Option<Mine>)
+    requires counts { Counts locked.now }
+    requires name { seen.now.name ≡ locked.now.tip.name }
+    requires twin { Matches locked.now.twin mine.now seen.now.count }
+    ensures seen { seen.now.count ≤ length locked.now.state.value.pass.history }
+    ensures alone { IsSome locked.now.twin → seen.now.count ≡ length locked.now.state.value.pass.history }
 {
-    for _ in rt.forever() {
-        let seen = pass.epoch();
-        let now = state.pass().epoch();
-        if seen == now || (seen < now && !alone) {
-            return;
+    locked.tip.bounds(seen);
+    if let Some(kept) = &locked.twin {
+        match mine {
+            Some(mine) => kept.agrees(mine),
+            None => unreachable!(),
         }
     }
-    unreachable!()
+}
+
+impl<K: Keeps + Drop> Locked<K> {
+    ghost use Rattle.std.specs.Prelude.{◌≡◌, ◌+◌};
+    ghost use Rattle.monitor.specs.Members.{twin_of, IsTwin, Matches};
+
+    /// Counts so many changes more, for the member that has made them.
+    pub(crate) fn count(&mut self, seen: &mut Seen, mine: &mut Option<Mine>, more: u64)
+        requires twin { IsTwin self.old.twin self.old.tip.count }
+        requires mine { Matches self.old.twin mine.old self.old.tip.count }
+        ensures state { self.new.state ≡ self.old.state }
+        ensures tip { (self.new.tip.name ≡ self.old.tip.name) × (self.new.tip.count ≡ self.old.tip.count + more) }
+        ensures name { twin_of self.new ≡ twin_of self.old }
+        ensures twin { IsTwin self.new.twin (self.old.tip.count + more) }
+        ensures mine { Matches self.new.twin mine.new (self.old.tip.count + more) }
+        ensures seen { (seen.new.name ≡ self.old.tip.name) × (seen.new.count ≡ self.old.tip.count + more) }
+    {
+        self.tip.rise(more);
+        *seen = self.tip.seen();
+        if let Some(kept) = &mut self.twin {
+            match mine {
+                Some(mine) => kept.rise(mine, more),
+                None => unreachable!(),
+            }
+        }
+    }
 }
 
 /// Commits a change to a state, by one who has seen all that it has.
@@ -80,6 +110,7 @@ pub(crate) fn commit<K: Keeps + Drop>(
     ensures commits { AnswersCommit state.old.first (length row.now.cells)
         pass.old.history pass.new.history base change result }
     ensures own { AddsChange pass.old.history pass.new.history change result }
+    ensures longer { length pass.new.history ≡ length pass.old.history + commits_made result }
     ensures unspent { IfErr result (λ e. e ≢ SeatSpent) }
     ensures stored { IfErr result (λ e. e ≡ NotStored → K.may_fail) }
     ensures pass { pass.new ≡ state.new.pass }
@@ -106,6 +137,7 @@ pub(crate) fn balance<K: Keeps + Drop>(
         request.entry.pool (asked_aim request.entry) request.entry.limit result }
     ensures own { AddsPlan state.old.first pass.old.history pass.new.history
         request.entry.pool (asked_aim request.entry) request.entry.limit result }
+    ensures longer { length pass.new.history ≡ length pass.old.history + plans_made result }
     ensures unspent { IfErr result (λ e. e ≢ SeatSpent) }
     ensures stored { IfErr result (λ e. e ≡ NotStored → K.may_fail) }
     ensures pass { pass.new ≡ state.new.pass }

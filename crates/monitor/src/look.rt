@@ -13,6 +13,7 @@ use keeping::{Keeps, Nothing};
 use state::State;
 use std::sync::Wait;
 use ticketlock::ReadGuard;
+use tip::{Mine, Seen};
 
 /// A member that shares the lock, and looks at the state as long as it likes: nobody commits meanwhile. It must be
 /// spent, by [`Look::leave`], and stays in its thread.
@@ -20,7 +21,9 @@ pub struct Look<'a, K: Keeps + Drop = Nothing> {
     pub(crate) guard: ReadGuard<'a, Locked<K>>,
     pub(crate) pass: Pass,
     pub(crate) own: Vec<bool>,
-    pub ghost seen: { (lent guard).pass ≡ pass },
+    pub(crate) seen: Seen,
+    pub(crate) mine: Option<Mine>,
+    pub ghost shows: { (lent guard).pass ≡ pass },
 }
 
 impl<K: Keeps + Drop> Monitor<K> {
@@ -50,6 +53,8 @@ impl<K: Keeps + Drop> Monitor<K> {
                 guard,
                 pass: member.pass,
                 own: member.own,
+                seen: member.seen,
+                mine: member.mine,
             }),
             Err(_) => Err(member),
         }
@@ -76,11 +81,19 @@ impl<'a, K: Keeps + Drop> Look<'a, K> {
         ensures own { result.own ≡ self.entry.own }
         ensures draws { draws_made result ≡ self.entry.guard.turn.place.draws }
     {
-        let Look { guard, pass, own } = self;
+        let Look {
+            guard,
+            pass,
+            own,
+            seen,
+            mine,
+        } = self;
         Member {
             seat: Some(guard.leave()),
             pass,
             own,
+            seen,
+            mine,
         }
     }
 }

@@ -2,12 +2,13 @@
 
 ghost use Rattle.std.specs.Prelude.{◌≡◌, ◌≢◌, Some, IfOk, length};
 ghost use Rattle.epochlog.specs.Epochs.{OneBegins};
-ghost use Rattle.monitor.specs.Making.{IsOfRow, with_made, planned_epoch, HasMade};
+ghost use Rattle.monitor.specs.Making.{IsOfRow, with_made, planned_epoch, HasMade, commits_made, plans_made};
 
 use epochlog::Pass;
 use refusal::Refusal;
 use state::{Balance, Commit};
 use ticketlock::Seat;
+use tip::{Mine, Seen};
 
 /// One who asks a monitor and commits to it: a seat at its lock, what it has seen of its row, and which of the row's
 /// epochs it has made. It may move to another thread, and be dropped. Its seat is there between any two calls.
@@ -17,6 +18,10 @@ pub struct Member {
     pub(crate) pass: Pass,
     /// For each epoch of the row, whether the member has made it.
     pub(crate) own: Vec<bool>,
+    /// That the monitor's changes were so many as the member has seen.
+    pub(crate) seen: Seen,
+    /// How many they are, if it is the only member.
+    pub(crate) mine: Option<Mine>,
 }
 
 /// Marks an epoch as made by the member whose marks these are; the row begins after the epoch `first`.
@@ -25,6 +30,26 @@ fn mark(own: &mut Vec<bool>, first: u64, epoch: u64)
     ensures { own.new.items ≡ with_made first own.old.items (Some epoch) }
 {
     own[(epoch - first - 1) as usize] = true;
+}
+
+/// How many epochs a commit has made.
+pub(crate) fn commits_made(answer: &Result<Commit, Refusal>) -> u64
+    ensures { result ≡ commits_made answer.now }
+{
+    match answer {
+        Ok(_) => 1,
+        Err(_) => 0,
+    }
+}
+
+/// How many epochs a plan has made.
+pub(crate) fn plans_made(answer: &Result<Balance, Refusal>) -> u64
+    ensures { result ≡ plans_made answer.now }
+{
+    match answer {
+        Ok(made) => { if made.moves == 0 { 0 } else { 1 } }
+        Err(_) => 0,
+    }
 }
 
 /// Marks the epoch that a commit has made, if it has.

@@ -2,6 +2,7 @@
 
 ghost use Rattle.std.specs.Prelude.{◌≡◌};
 
+use crate::ended::Ended;
 use crate::locked::Locked;
 use epochlog::{Pass, Row};
 use keeping::{Keeps, Nothing};
@@ -30,6 +31,7 @@ where
 impl<K: Keeps + Drop> Monitor<K> {
     ghost use Rattle.std.specs.Prelude.{◌≡◌, ◌+◌, ◌<◌, ◌≤◌, [], length, true, false, IfOk, IfSome};
     ghost use Rattle.monitor.specs.Members.{IsPassOf, IsStateOf};
+    ghost use Rattle.monitor.specs.Ends.{IsEndOf};
 
     /// Whether the monitor has reached an epoch by now: it is the first map's or one before it, or the row shows it. It
     /// takes no turn at the lock, no memory, and waits for no one. Who then shares the lock finds the state there, or
@@ -56,14 +58,21 @@ impl<K: Keeps + Drop> Monitor<K> {
         Monitor { profile, ..self }
     }
 
-    /// The state, with which the monitor ends. `None` only where a writer at the lock has lost it, as
-    /// [`ticketlock::Lock::into_value`] says.
+    /// What the monitor ends with: its state, which has seen all that its members have. `None` only where a writer at
+    /// the lock has lost it, as [`ticketlock::Lock::into_value`] says.
+    pub fn end(self) -> Option<Ended<K>>
+        ensures { IfSome result (IsEndOf self) }
+    {
+        let Monitor { lock, .. } = self;
+        let Locked { state, tip, .. } = lock.into_value()?;
+        Some(Ended { state, tip })
+    }
+
+    /// The state, with which the monitor ends. `None` only where [`Monitor::end`] is.
     pub fn into_state(self) -> Option<Box<State<K>>>
         ensures { IfSome result (λ state. IsStateOf self state.value) }
     {
-        let Monitor { lock, .. } = self;
-        let Locked { state } = lock.into_value()?;
-        Some(state)
+        Some(self.end()?.into_state())
     }
 
     /// By which profile the texts of its changes are read: which kinds of buckets they may state, by whose limits.
@@ -102,8 +111,8 @@ where
 
     ghost Value = { Monitored };
 
-    ghost view = { λ m. monitored m.first.map m.row m.lock.words (first_of m.lock).state.value m.profile m.alone };
+    ghost view = { λ m. monitored m.first.map m.row m.lock.words (first_of m.lock) m.profile m.alone };
 
     ghost invariant = { λ m.
-        IsOpened (monitored m.first.map m.row m.lock.words (first_of m.lock).state.value m.profile m.alone) };
+        IsOpened (monitored m.first.map m.row m.lock.words (first_of m.lock) m.profile m.alone) };
 }

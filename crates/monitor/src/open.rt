@@ -1,9 +1,9 @@
 //! How a monitor is opened.
 
-ghost use Rattle.std.specs.Prelude.{◌≡◌, true, length, All, IfOk};
+ghost use Rattle.std.specs.Prelude.{◌≡◌, true, false, length, All, IfOk, IfSome, IsSome, IsSomeAnd, None};
 ghost use Rattle.ticketlock.specs.Callers.{IsNewOf, first_of, limit_of};
 ghost use Rattle.ticketlock.specs.Errors.{IsWithin};
-ghost use Rattle.monitor.specs.Opening.{can_open, can_open_with};
+ghost use Rattle.monitor.specs.Opening.{can_open, can_open_with, StartsWith};
 
 use crate::locked::Locked;
 use crate::member::Member;
@@ -18,6 +18,7 @@ use state::State;
 use std::alloc::Global;
 use ticketlock::limits::{MAX_DRAWS, MAX_SEATS};
 use ticketlock::{Lock, LockError, Seat};
+use tip::{Kept, Mine, Seen, Tip, pair};
 
 /// How much a monitor has room for.
 #[derive(Clone, Copy, Debug, PartialEq, Eq)]
@@ -40,38 +41,72 @@ fn can_open(epoch: u64, limits: Limits) -> bool
         && (1..=MAX_DRAWS).contains(&limits.draws)
 }
 
-/// A state under a lock, and the seats, where both numbers are within their limits; or `Memory` (30).
+/// What the members of a new monitor know of the count of its changes.
+#[derive(Drop)]
+struct Counting {
+    seen: Seen,
+    mine: Option<Mine>,
+}
+
+/// A count that two know, where it is asked for.
+fn twins(asked: bool) -> (Option<Kept>, Option<Mine>)
+    ensures twins { IfSome result.0 (λ t. (t.count ≡ 0) × IsSomeAnd result.1 (λ m. (m.name ≡ t.name) × (m.count ≡ 0))) }
+    ensures asked { asked ≡ true → IsSome result.0 }
+    ensures plain { asked ≡ false → (result.0 ≡ None) × (result.1 ≡ None) }
+{
+    if asked {
+        let (kept, mine) = pair();
+        (Some(kept), Some(mine))
+    } else {
+        (None, None)
+    }
+}
+
+/// A state under a lock at its beginning, and the seats, where both numbers are within their limits; or `Memory` (30).
 fn lock_state<K: Keeps + Drop>(
     alloc: Global,
     state: State<K>,
     seats: u32,
     draws: u64,
-) -> Result<(Lock<Locked<K>>, Vec<Seat>), Memory>
-    requires { IsWithin seats draws }
+) -> Result<(Lock<Locked<K>>, Vec<Seat>, Counting), Memory>
+    requires within { IsWithin seats draws }
+    requires start { length state.pass.history ≡ 0 }
     ensures seats { IfOk result (λ r. (length r.1.items ≡ seats) × All (IsNewOf r.0) r.1.items) }
     ensures lock { IfOk result (λ r. ((first_of r.0).state.value ≡ state) × (limit_of r.0 ≡ draws)) }
+    ensures counting { IfOk result (λ r. StartsWith (first_of r.0) seats r.2) }
 {
     let state = Box::new(alloc, state)?;
-    match Lock::with_limit(alloc, Locked { state }, seats, draws) {
-        Ok(made) => Ok(made),
+    let tip = Tip::new();
+    let seen = tip.seen();
+    let (twin, mine) = twins(seats == 1);
+    let counting = Counting { seen, mine };
+    match Lock::with_limit(alloc, Locked { state, tip, twin }, seats, draws) {
+        Ok((lock, seats)) => Ok((lock, seats, counting)),
         Err(LockError::Memory) => Err(Memory),
         Err(LockError::BadLimit) => unreachable!(),
     }
 }
 
 impl<K: Keeps + Drop> Monitor<K> {
-    ghost use Rattle.std.specs.Prelude.{◌≡◌, [], true, length, All, IfOk};
+    ghost use Rattle.std.specs.Prelude.{◌≡◌, [], true, length, All, IfOk, IsSome, Some, None};
     ghost use Rattle.refusal.specs.declared.refused.Refusal.TheVariants.{BadLimit};
     ghost use Rattle.refusal.specs.Outcomes.{refused_unless, Gives};
     ghost use Rattle.ticketlock.specs.Callers.{IsNewAt};
     ghost use Rattle.state.specs.States.{journal};
     ghost use Rattle.monitor.specs.Opening.{can_open_with, IsOpeningWith};
-    ghost use Rattle.monitor.specs.Members.{IsNewMemberOf};
+    ghost use Rattle.monitor.specs.Members.{IsNewMemberOf, Knows};
 
     /// A member with this seat, who has seen nothing.
     #[tactic(auto, using(crate::proofs::Histories::lawful_none))]
-    fn member(&self, alloc: Global, seat: Seat) -> Result<Member, Memory>
-        requires { IsNewAt self.now.words seat }
+    fn member(
+        &self,
+        alloc: Global,
+        seat: Seat,
+        seen: Seen,
+        mine: Option<Mine>,
+    ) -> Result<Member, Memory>
+        requires seat { IsNewAt self.now.words seat }
+        requires knows { Knows self.now seen mine [] }
         ensures { IfOk result (IsNewMemberOf self.now) }
     {
         let pass = self.row.pass(alloc)?;
@@ -80,20 +115,65 @@ impl<K: Keeps + Drop> Monitor<K> {
             seat: Some(seat),
             pass,
             own,
+            seen,
+            mine,
         })
     }
 
-    /// Members with these seats, who have seen nothing.
-    fn members(&self, alloc: Global, seats: Vec<Seat>) -> Result<Vec<Member>, Memory>
-        requires { All (IsNewAt self.now.words) seats.items }
+    /// Members with these seats, who have seen nothing, of a monitor without a twin.
+    fn many(&self, alloc: Global, seats: Vec<Seat>, seen: &Seen) -> Result<Vec<Member>, Memory>
+        requires seats { All (IsNewAt self.now.words) seats.items }
+        requires knows { Knows self.now seen.now None [] }
         ensures { IfOk result (λ members.
             (length members.items ≡ length seats.items) × All (IsNewMemberOf self.now) members.items) }
     {
         let mut members = Vec::with_capacity(alloc, seats.len())?;
         for seat in seats {
-            members.push(self.member(alloc, seat)?)?;
+            members.push(self.member(alloc, seat, seen.again(), None)?)?;
         }
         Ok(members)
+    }
+
+    /// The only member, with the only seat, who has seen nothing.
+    fn one(
+        &self,
+        alloc: Global,
+        seats: Vec<Seat>,
+        seen: Seen,
+        mine: Mine,
+    ) -> Result<Vec<Member>, Memory>
+        requires seats { All (IsNewAt self.now.words) seats.items }
+        requires knows { Knows self.now seen (Some mine) [] }
+        requires one { length seats.items ≡ 1 }
+        ensures { IfOk result (λ members. (length members.items ≡ 1) × All (IsNewMemberOf self.now) members.items) }
+    {
+        let mut seats = seats;
+        let Some(seat) = seats.pop() else {
+            unreachable!()
+        };
+        let mut members = Vec::new(alloc);
+        members.push(self.member(alloc, seat, seen, Some(mine))?)?;
+        Ok(members)
+    }
+
+    /// Members with these seats, who have seen nothing.
+    fn members(
+        &self,
+        alloc: Global,
+        seats: Vec<Seat>,
+        counting: Counting,
+    ) -> Result<Vec<Member>, Memory>
+        requires seats { All (IsNewAt self.now.words) seats.items }
+        requires knows { Knows self.now counting.seen counting.mine [] }
+        requires one { IsSome counting.mine → length seats.items ≡ 1 }
+        ensures { IfOk result (λ members.
+            (length members.items ≡ length seats.items) × All (IsNewMemberOf self.now) members.items) }
+    {
+        let Counting { seen, mine } = counting;
+        match mine {
+            Some(mine) => self.one(alloc, seats, seen, mine),
+            None => self.many(alloc, seats, &seen),
+        }
     }
 
     /// The monitor with these limits, which hold, and its members.
@@ -111,7 +191,7 @@ impl<K: Keeps + Drop> Monitor<K> {
         let work = Work::new(alloc, map.forest())?;
         let state = State::new(alloc, map, &row, work, store)?;
         let first = state.share_first()?;
-        let (lock, seats) = lock_state(alloc, state, limits.seats, limits.draws)?;
+        let (lock, seats, counting) = lock_state(alloc, state, limits.seats, limits.draws)?;
         let monitor = Monitor {
             lock,
             row,
@@ -119,7 +199,7 @@ impl<K: Keeps + Drop> Monitor<K> {
             profile: Profile::Plain,
             alone: limits.seats == 1,
         };
-        let members = monitor.members(alloc, seats)?;
+        let members = monitor.members(alloc, seats, counting)?;
         Ok((monitor, members))
     }
 

@@ -3,9 +3,9 @@
 ghost use Rattle.std.specs.Prelude.{◌≡◌};
 ghost use Rattle.ticketlock.specs.Guards.{first_of_read};
 ghost use Rattle.osdmap.specs.Changes.{after};
-ghost use Rattle.monitor.specs.Members.{lent};
+ghost use Rattle.monitor.specs.Members.{Counts, lent, twin_of};
 
-use crate::locked::{Locked, see, wait_until_seen};
+use crate::locked::{Locked, compare, see};
 use crate::member::Member;
 use crate::monitor::Monitor;
 use crate::shared::Shared;
@@ -15,6 +15,18 @@ use state::State;
 use std::sync::Wait;
 use ticketlock::{ReadGuard, WriteGuard};
 
+/// What a guard lends.
+pub(crate) fn locked_of<'g, K: Keeps + Drop>(guard: &'g ReadGuard<'_, Locked<K>>) -> &'g Locked<K>
+    ensures lends { result.now.state.value ≡ lent guard.now }
+    ensures first { result.now.state.value.first ≡ (first_of_read guard.now).state.value.first }
+    ensures row { result.now.state.value.pass.row ≡ (first_of_read guard.now).state.value.pass.row }
+    ensures counts { Counts result.now }
+    ensures name { result.now.tip.name ≡ (first_of_read guard.now).tip.name }
+    ensures twin { twin_of result.now ≡ twin_of (first_of_read guard.now) }
+{
+    guard.value()
+}
+
 /// The state that a guard lends.
 pub(crate) fn state_of<'g, K: Keeps + Drop>(guard: &'g ReadGuard<'_, Locked<K>>) -> &'g State<K>
     ensures lends { result.now ≡ lent guard.now }
@@ -22,7 +34,7 @@ pub(crate) fn state_of<'g, K: Keeps + Drop>(guard: &'g ReadGuard<'_, Locked<K>>)
     ensures row { result.now.pass.row ≡ (first_of_read guard.now).state.value.pass.row }
     ensures map { result.now.map ≡ after result.now.first result.now.pass.history }
 {
-    let state: &State<K> = &guard.value().state;
+    let state: &State<K> = &locked_of(guard).state;
     let _ = state.map();
     state
 }
@@ -30,7 +42,7 @@ pub(crate) fn state_of<'g, K: Keeps + Drop>(guard: &'g ReadGuard<'_, Locked<K>>)
 impl<K: Keeps + Drop> Monitor<K> {
     ghost use Rattle.std.specs.Prelude.{◌≡◌, ◌-◌, length, IfOk, IsSomeAnd};
     ghost use Rattle.osdmap.specs.Changes.{after, IsLawful};
-    ghost use Rattle.monitor.specs.Members.{IsMemberOf, IsStateOf, Holds, TakesHold, draws_made, draws_of};
+    ghost use Rattle.monitor.specs.Members.{IsMemberOf, IsStateOf, IsCountedBy, Counts, Knows, Holds, TakesHold, draws_made, draws_of};
     ghost use Rattle.monitor.specs.Sharing.{IsSharing};
 
     /// Shares the lock, for several questions to one state, by one draw: [`Monitor::shown`] lends it, and
@@ -50,9 +62,10 @@ impl<K: Keeps + Drop> Monitor<K> {
         };
         match self.lock.wait_read(rt, seat) {
             Ok(guard) => {
-                let state = state_of(&guard);
-                wait_until_seen(rt, state, &member.pass, self.alone);
-                see(&mut member.pass, state);
+                let locked = locked_of(&guard);
+                compare(locked, &member.seen, &member.mine);
+                see(&mut member.pass, &locked.state);
+                member.seen = locked.tip.seen();
                 Ok(Shared { guard })
             }
             Err(seat) => {
@@ -72,16 +85,19 @@ impl<K: Keeps + Drop> Monitor<K> {
         ensures row { member.new.pass.row ≡ self.now.row }
         ensures turn { TakesHold self.now member.old member.new (λ guard. guard.turn.place.draws) result }
         ensures holds { IfOk result (λ guard. Holds self.now guard
-            × (guard.value.state.value.first ≡ self.now.first) × (guard.value.state.value.pass ≡ member.new.pass)) }
+            × (guard.value.state.value.first ≡ self.now.first) × (guard.value.state.value.pass ≡ member.new.pass)
+            × Counts guard.value × IsCountedBy self.now guard.value) }
+        ensures knows { Knows self.now member.new.seen member.new.mine member.new.pass.history }
     {
         let Some(seat) = member.seat.take() else {
             unreachable!()
         };
         match self.lock.wait_write(rt, seat) {
             Ok(guard) => {
-                let state: &State<K> = &guard.value().state;
-                wait_until_seen(rt, state, &member.pass, self.alone);
-                see(&mut member.pass, state);
+                let locked = guard.value();
+                compare(locked, &member.seen, &member.mine);
+                see(&mut member.pass, &locked.state);
+                member.seen = locked.tip.seen();
                 Ok(guard)
             }
             Err(seat) => {
@@ -129,6 +145,8 @@ impl<K: Keeps + Drop> Monitor<K> {
         requires row { member.old.pass.row ≡ self.now.row }
         requires lawful { IsLawful self.now.first member.old.pass.history }
         requires room { length member.old.own.items ≡ length self.now.row.cells }
+        requires counts { Counts guard.value × IsCountedBy self.now guard.value }
+        requires knows { Knows self.now member.old.seen member.old.mine member.old.pass.history }
         ensures member { IsMemberOf self.now member.new }
         ensures pass { member.new.pass ≡ member.old.pass }
         ensures own { member.new.own ≡ member.old.own }

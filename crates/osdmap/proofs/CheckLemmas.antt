@@ -1,7 +1,8 @@
 -- Pools that stay, and pools after a change, by id.
-use Rattle.std.proofs.Common.{◌≡◌, ◌∙◌, refl, arith, ℕ, ◌+◌, ◌-◌, ◌≤◌, ◌<◌, leb, Bool, true, false, not, List, [], ◌∷◌, length, Some, None, reverse}
+use Rattle.std.proofs.Common.{◌≡◌, ◌∙◌, refl, sym, ap, inl, inr, arith, ℕ, suc, ◌+◌, ◌-◌, ◌≤◌, ◌<◌, leb, Bool, true, false, not, List, [], ◌∷◌, length, map, Some, None, reverse}
 use Rattle.std.specs.Prelude.{◌||◌, ◌==◌}
 use Rattle.std.specs.List.{list_all, filter, fold}
+use Rattle.std.proofs.lemmas.Bool.{cases_Bool, both_ways}
 use Rattle.std.proofs.lemmas.Bool.Decides.{nat_tests}
 use Rattle.std.proofs.lemmas.List.Filters.{length-filter_both}
 use Rattle.maptypes.specs.declared.change.ChangeParts.{ChangeParts}
@@ -9,8 +10,9 @@ use Rattle.maptypes.specs.Pools.{PoolFacts}
 use Rattle.keylist.specs.Keys.{has_key, entry_at}
 use Rattle.keylist.specs.Order.{IsRising}
 use Rattle.keylist.specs.Puts.{put}
-use Rattle.osdmap.specs.Maps.{ClusterMap}
-use Rattle.osdmap.specs.Changes.{pools_kept, pools_there, brings_new}
+use Rattle.maptypes.specs.Growth.{with_growths}
+use Rattle.osdmap.specs.Maps.{ClusterMap, HoldsTogether, has_rule}
+use Rattle.osdmap.specs.Changes.{pools_kept, pools_there, rules_after, brings_new}
 use Rattle.keylist.proofs.Tests.{and_first, and_second, not_true}
 use Rattle.keylist.proofs.KeyedOrder.{rising-filter}
 use Rattle.keylist.proofs.KeyedMaps.{entry-puts, entry-without, has-put, length-put, rising-put}
@@ -70,6 +72,44 @@ length-after m c rises new =
 pub kept-is : (m : ClusterMap) (c : ChangeParts) → pools_kept m c ≡ filter (λ q. not (has_key (λ k. k) c.old_pools q.id)) m.pools
 unfolding pools_kept
 kept-is m c = refl
+
+-- all are where none goes
+pub kept-all : (m : ClusterMap) (c : ChangeParts) → c.old_pools ≡ [] → pools_kept m c ≡ m.pools
+unfolding pools_kept
+kept-all m c none = rw none (all_stay m.pools)
+  where
+    all_stay : (ps : List PoolFacts) → filter (λ (q : PoolFacts). true) ps ≡ ps
+    all_stay [] = refl
+    all_stay (p ∷ ps) = ap (λ qs. p ∷ qs) (all_stay ps)
+
+-- what all pass, all of those pass that stay
+all-kept : (p q : PoolFacts → Bool) (ps : List PoolFacts) → list_all p ps ≡ true → true ≡ list_all p (filter q ps)
+all-kept p q [] all = refl
+all-kept p q (r ∷ rs) all =
+    let rest = all-kept p q rs (and_second (p r) (list_all p rs) all) in
+    elim (cases_Bool (q r)) [
+      | inl stays ↦ rw (stays, and_first (p r) (list_all p rs) all) rest
+      | inr goes ↦ rw goes rest
+    ]
+
+-- a list of length 0 has no entries
+pub none-there : {X : Type 0} (xs : List X) (b : Bool) → b ≡ (length xs == 0) → b ≡ true → xs ≡ []
+none-there [] b is empty = refl
+none-there (x ∷ xs) b is empty = absurd (both_ways _ (is_some (length xs)) (sym is ∙ empty))
+  where
+    is_some : (n : ℕ) → (suc n == 0) ≡ false
+    is_some n = grind (arith, nat_tests)
+
+-- those that stay keep their rules where these stay
+pub kept-ruled : (m : ClusterMap) (c : ChangeParts) → HoldsTogether m → c.new_crush ≡ None → true ≡ list_all (has_rule (rules_after m c)) (pools_kept m c)
+unfolding pools_kept
+kept-ruled m c holds none = rw none (all-kept (has_rule m.rules) (λ (q : PoolFacts). not (has_key (λ k. k) c.old_pools q.id)) m.pools holds.ruled)
+
+-- none grows where there are no growths
+pub grown-none : (ps : List PoolFacts) → map (with_growths []) ps ≡ ps
+unfolding with_growths
+grown-none [] = refl
+grown-none (p ∷ ps) = ap (λ qs. p ∷ qs) (grown-none ps)
 
 -- they are not more than before
 pub kept-few : (m : ClusterMap) (c : ChangeParts) → length (pools_kept m c) ≤ length m.pools

@@ -5,7 +5,7 @@ use Rattle.std.specs.List.{find, list_all, fold}
 use Rattle.std.specs.Option.{option_map_or}
 use Rattle.std.proofs.lemmas.Grind.{common_steps}
 use Rattle.crush.specs.declared.step.Step.{Step}
-use Rattle.crush.specs.declared.step.Step.TheVariants.{SetChooseTries, SetChooseleafTries, Take, Choose as Chooses, Emit}
+use Rattle.crush.specs.declared.step.Step.TheVariants.{SetChooseTries, SetChooseleafTries, SetChooseleafVaryR, SetChooseleafStable, Take, Choose as Chooses, Emit}
 use Rattle.crush.specs.World.{World}
 use Rattle.crush.specs.Run.{Progress, no_progress, after_step, run_of}
 use Rattle.maptypes.specs.declared.rules.NumberedRule.{NumberedRule}
@@ -30,6 +30,8 @@ short_step : (w : World) (size : ℕ) (s : Progress) (step : Step) → length s.
 unfolding after_step
 short_step w size s (SetChooseTries n) short = short
 short_step w size s (SetChooseleafTries n) short = short
+short_step w size s (SetChooseleafVaryR n) short = short
+short_step w size s (SetChooseleafStable n) short = short
 short_step w size s (Take id) short = short
 short_step w size s (Chooses c) short = short
 short_step w size s Emit short = simp length-take (omega arith)

@@ -4,7 +4,7 @@ use Rattle.std.specs.List.{range_with_len, list_any}
 use Rattle.buckets.specs.declared.bucket.Item.{Item}
 use Rattle.buckets.specs.declared.bucket.Bucket.{Bucket}
 use Rattle.crush.specs.declared.step.Step.{Step}
-use Rattle.crush.specs.declared.step.Step.TheVariants.{SetChooseTries as TryFor, SetChooseleafTries as TryForLeaves, Take as TakeBucket, Choose as ChooseBy, Emit as EmitAll}
+use Rattle.crush.specs.declared.step.Step.TheVariants.{SetChooseTries as TryFor, SetChooseleafTries as TryForLeaves, SetChooseleafVaryR as VaryLeaves, SetChooseleafStable as SettleLeaves, Take as TakeBucket, Choose as ChooseBy, Emit as EmitAll}
 use Rattle.crush.specs.Grammar.{sets_tries}
 use Rattle.maptypes.specs.declared.osd.OsdState.{OsdState}
 use Rattle.mapparts.specs.declared.parts.MapParts.{MapParts}
@@ -12,7 +12,7 @@ use Rattle.mapparts.specs.declared.parts.BucketPart.{BucketPart}
 use Rattle.mapparts.specs.declared.parts.ItemPart.{ItemPart}
 use Rattle.mapparts.specs.declared.parts.RulePart.{RulePart}
 use Rattle.mapparts.specs.declared.parts.StepPart.{StepPart}
-use Rattle.mapparts.specs.declared.parts.StepPart.TheVariants.{SetChooseTries, SetChooseleafTries, Take, Choose as Chooses, Emit}
+use Rattle.mapparts.specs.declared.parts.StepPart.TheVariants.{SetChooseTries, SetChooseleafTries, SetChooseleafVaryR, SetChooseleafStable, Take, Choose as Chooses, Emit}
 use Rattle.mapparts.specs.declared.parts.PoolPart.{PoolPart}
 use Rattle.mapparts.specs.declared.parts.OsdPart.{OsdPart}
 use Rattle.mapparts.specs.declared.parts.ExceptionPart.{ExceptionPart}
@@ -34,6 +34,8 @@ bucket_part b = record { id = b.id; level = pos b.level; kind = b.kind; items = 
 abbrev pub step_part : Step → StepPart
 step_part (TryFor n) = SetChooseTries (pos n)
 step_part (TryForLeaves n) = SetChooseleafTries (pos n)
+step_part (VaryLeaves n) = SetChooseleafVaryR (pos n)
+step_part (SettleLeaves n) = SetChooseleafStable (pos n)
 step_part (TakeBucket id) = Take id
 step_part (ChooseBy c) = Chooses (record {
   mode = c.mode;

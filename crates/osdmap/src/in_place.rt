@@ -58,6 +58,16 @@ fn grow_all(pools: &mut Vec<Pool>, growths: &[Grow])
     }
 }
 
+/// Pools grow where there are growths, these in ascending order; else the list is not looked at.
+fn grow_some(pools: &mut Vec<Pool>, growths: &[Grow])
+    requires { IsNonDecreasingBy (λ g. g.pool) growths.now }
+    ensures { pools.new.items ≡ map (with_growths growths.now) pools.old.items }
+{
+    if !growths.is_empty() {
+        grow_all(pools, growths);
+    }
+}
+
 /// Pools go, come and grow, each list in ascending order.
 pub(crate) fn change_pools(pools: &mut Vec<Pool>, old: &[u32], new: &[Pool], growths: &[Grow])
     requires rising { IsRising (λ p. p.id) pools.old.items }
@@ -70,7 +80,7 @@ pub(crate) fn change_pools(pools: &mut Vec<Pool>, old: &[u32], new: &[Pool], gro
 {
     take_away(pools, old);
     put_all(pools, new);
-    grow_all(pools, growths);
+    grow_some(pools, growths);
 }
 
 /// The exceptions of the groups of some pools go.

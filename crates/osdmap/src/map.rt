@@ -116,11 +116,11 @@ impl OsdMap {
         &self.pools
     }
 
-    /// The pool of an id.
+    /// The pool of an id; by halving.
     pub fn pool(&self, id: u32) -> Option<Pool>
         ensures { result ≡ pool_at self.now.map.pools id }
     {
-        self.pools.iter().copied().find(|pool| pool.id() == id)
+        entry_of(&self.pools, u64::from(id)).copied()
     }
 
     /// What the map has of an OSD below `max_osd`.

@@ -9,8 +9,8 @@ use Rattle.mapparts.specs.declared.parts.StepPart.{StepPart}
 use Rattle.mapparts.specs.declared.parts.StepPart.TheVariants as part
 use Rattle.jsonstream.specs.Json.{◌>>=◌, whole_number, entries_of, has_count, item_count, place}
 use Rattle.partjson.specs.declared.rules.StepWord.{StepWord}
-use Rattle.partjson.specs.declared.rules.StepWord.TheVariants.{Take, Choose, Emit, Tries, LeafTries}
-use Rattle.partjson.specs.StatedMaps.{stated_step, step_by, take_of, choose_of, emit_of, tries_of, leaf_tries_of}
+use Rattle.partjson.specs.declared.rules.StepWord.TheVariants.{Take, Choose, Emit, Tries, LeafTries, LeafVary, LeafStable}
+use Rattle.partjson.specs.StatedMaps.{stated_step, step_by, take_of, choose_of, emit_of, tries_of, leaf_tries_of, leaf_vary_of, leaf_stable_of}
 use Rattle.partjson.specs.Steps.{step_word, step_word_of, one_number, emit_with, choose_with, step_with, step_if}
 
 -- what is no list states no step
@@ -111,7 +111,7 @@ picked f false w x rest others is later = later
 
 -- what a list states is picked by its word
 by_word : (d : Data) (ds : Items) (o : Option (List ℕ)) → option_and_then (λ w. step_by w (array (item d ds))) o ≡ step_if (option_and_then step_word o) (entries_of whole_number ds)
-unfolding step_by take_of emit_of tries_of leaf_tries_of
+unfolding step_by take_of emit_of tries_of leaf_tries_of leaf_vary_of leaf_stable_of
 by_word d ds None = refl
 by_word d ds (Some w) =
     let f = λ (s : StepWord). option_and_then (step_with s) (entries_of whole_number ds) in
@@ -122,7 +122,9 @@ by_word d ds (Some w) =
     (picked f (bytes_eq w (codes "chooseleaf_indep")) (Choose Indep true) _ _ _ (two_is Indep true d ds)
     (picked f (bytes_eq w (codes "emit")) Emit _ _ _ (none_is d ds)
     (picked f (bytes_eq w (codes "set_choose_tries")) Tries _ _ _ (one_is (λ n. part.SetChooseTries n) d ds)
-    (picked f (bytes_eq w (codes "set_chooseleaf_tries")) LeafTries _ _ _ (one_is (λ n. part.SetChooseleafTries n) d ds) refl)))))))
+    (picked f (bytes_eq w (codes "set_chooseleaf_tries")) LeafTries _ _ _ (one_is (λ n. part.SetChooseleafTries n) d ds)
+    (picked f (bytes_eq w (codes "set_chooseleaf_vary_r")) LeafVary _ _ _ (one_is (λ n. part.SetChooseleafVaryR n) d ds)
+    (picked f (bytes_eq w (codes "set_chooseleaf_stable")) LeafStable _ _ _ (one_is (λ n. part.SetChooseleafStable n) d ds) refl)))))))))
 
 -- a list states the step of its word and the numbers behind it
 pub step_is : (d : Data) (ds : Items) → stated_step (array (item d ds)) ≡ step_if (step_word_of d) (entries_of whole_number ds)

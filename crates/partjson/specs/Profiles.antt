@@ -1,23 +1,23 @@
--- What texts state by a profile: a text with a kind of bucket that the profile has not states nothing.
-use Rattle.std.specs.Prelude.{Bool, true, Option, Some, None, if◌then◌else◌}
+-- What texts state by a profile: a text with a kind of bucket or a step that the profile has not states nothing.
+use Rattle.std.specs.Prelude.{Bool, true, ◌&&◌, Option, Some, None, if◌then◌else◌}
 use Rattle.std.specs.Option.{option_map_or}
 use Rattle.serde_json.specs.Data.{Data}
 use Rattle.mapparts.specs.declared.parts.MapParts.{MapParts}
 use Rattle.mapparts.specs.declared.parts.CrushParts.{CrushParts}
 use Rattle.mapparts.specs.declared.profile.Profile.{Profile}
-use Rattle.mapparts.specs.Profiles.{has_kinds}
+use Rattle.mapparts.specs.Profiles.{has_kinds, has_words}
 use Rattle.partjson.specs.declared.change.RawChange.{RawChange}
 use Rattle.jsonstream.specs.Json.{◌>>=◌}
 use Rattle.partjson.specs.StatedMaps.{stated_map}
 use Rattle.partjson.specs.StatedChanges.{stated_change}
 
--- whether a profile has the kinds of all buckets of a CRUSH map, where there is one
+-- whether a profile has the kinds of all buckets of a CRUSH map, and the steps of its rules, where there is one
 abbrev pub brings_kinds : Profile → Option CrushParts → Bool
-brings_kinds profile crush = option_map_or (λ c. has_kinds profile c.buckets) crush true
+brings_kinds profile crush = option_map_or (λ c. has_kinds profile c.buckets && has_words profile c.rules) crush true
 
 -- the parts of a map that a profile allows
 abbrev pub map_allowed : Profile → MapParts → Option MapParts
-map_allowed profile p = if has_kinds profile p.buckets then Some p else None
+map_allowed profile p = if has_kinds profile p.buckets && has_words profile p.rules then Some p else None
 
 -- the parts of a change that it allows
 abbrev pub change_allowed : Profile → RawChange → Option RawChange

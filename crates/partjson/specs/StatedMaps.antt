@@ -16,7 +16,7 @@ use Rattle.mapparts.specs.declared.parts.BucketPart.{BucketPart}
 use Rattle.mapparts.specs.declared.parts.ItemPart.{ItemPart}
 use Rattle.mapparts.specs.declared.parts.RulePart.{RulePart}
 use Rattle.mapparts.specs.declared.parts.StepPart.{StepPart}
-use Rattle.mapparts.specs.declared.parts.StepPart.TheVariants.{SetChooseTries, SetChooseleafTries, Take, Choose, Emit}
+use Rattle.mapparts.specs.declared.parts.StepPart.TheVariants.{SetChooseTries, SetChooseleafTries, SetChooseleafVaryR, SetChooseleafStable, Take, Choose, Emit}
 use Rattle.mapparts.specs.declared.parts.PoolPart.{PoolPart}
 use Rattle.mapparts.specs.declared.parts.OsdPart.{OsdPart}
 use Rattle.mapparts.specs.declared.parts.ExceptionPart.{ExceptionPart}
@@ -96,6 +96,17 @@ leaf_tries_of d = if has_count 2 d then (do
   tries ← place whole_number 1 d
   Some (SetChooseleafTries tries)) else None
 
+-- ["set_chooseleaf_vary_r", n] and ["set_chooseleaf_stable", n]
+unfoldable pub leaf_vary_of : Data → Option StepPart
+leaf_vary_of d = if has_count 2 d then (do
+  vary ← place whole_number 1 d
+  Some (SetChooseleafVaryR vary)) else None
+
+unfoldable pub leaf_stable_of : Data → Option StepPart
+leaf_stable_of d = if has_count 2 d then (do
+  stable ← place whole_number 1 d
+  Some (SetChooseleafStable stable)) else None
+
 -- a step, by its word
 unfoldable pub step_by : List ℕ → Data → Option StepPart
 step_by word d =
@@ -107,6 +118,8 @@ step_by word d =
     else if bytes_eq word (codes "emit") then emit_of d
     else if bytes_eq word (codes "set_choose_tries") then tries_of d
     else if bytes_eq word (codes "set_chooseleaf_tries") then leaf_tries_of d
+    else if bytes_eq word (codes "set_chooseleaf_vary_r") then leaf_vary_of d
+    else if bytes_eq word (codes "set_chooseleaf_stable") then leaf_stable_of d
     else None
 
 -- a step, whose word stands first
@@ -187,10 +200,12 @@ map_keys =
     codes "buckets" ∷ codes "epoch" ∷ codes "max_osd" ∷ codes "osds" ∷ codes "pg_upmap"
     ∷ codes "pg_upmap_items" ∷ codes "pools" ∷ codes "rules" ∷ codes "version" ∷ []
 
--- whether a step sets tries
+-- whether a step sets how a choose step tries
 abbrev pub states_tries : StepPart → Bool
 states_tries (SetChooseTries _) = true
 states_tries (SetChooseleafTries _) = true
+states_tries (SetChooseleafVaryR _) = true
+states_tries (SetChooseleafStable _) = true
 states_tries (Take _) = false
 states_tries (Choose _) = false
 states_tries Emit = false

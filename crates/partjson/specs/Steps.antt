@@ -9,7 +9,7 @@ use Rattle.mapparts.specs.declared.parts.StepPart.{StepPart}
 use Rattle.mapparts.specs.declared.parts.StepPart.TheVariants as part
 use Rattle.jsonstream.specs.Json.{◌>>=◌}
 use Rattle.partjson.specs.declared.rules.StepWord.{StepWord}
-use Rattle.partjson.specs.declared.rules.StepWord.TheVariants.{Take, Choose, Emit, Tries, LeafTries}
+use Rattle.partjson.specs.declared.rules.StepWord.TheVariants.{Take, Choose, Emit, Tries, LeafTries, LeafVary, LeafStable}
 
 -- the word of a step; that of a choose step has its mode, and whether a device is taken below
 abbrev pub step_word : List ℕ → Option StepWord
@@ -22,6 +22,8 @@ step_word word =
     else if bytes_eq word (codes "emit") then Some Emit
     else if bytes_eq word (codes "set_choose_tries") then Some Tries
     else if bytes_eq word (codes "set_chooseleaf_tries") then Some LeafTries
+    else if bytes_eq word (codes "set_chooseleaf_vary_r") then Some LeafVary
+    else if bytes_eq word (codes "set_chooseleaf_stable") then Some LeafStable
     else None
 
 abbrev pub step_word_of : Data → Option StepWord
@@ -53,6 +55,8 @@ step_with (Choose mode to_leaf) ns = choose_with mode to_leaf ns
 step_with Emit ns = emit_with ns
 step_with Tries ns = option_map (λ n. part.SetChooseTries n) (one_number ns)
 step_with LeafTries ns = option_map (λ n. part.SetChooseleafTries n) (one_number ns)
+step_with LeafVary ns = option_map (λ n. part.SetChooseleafVaryR n) (one_number ns)
+step_with LeafStable ns = option_map (λ n. part.SetChooseleafStable n) (one_number ns)
 
 -- the same, where there is a word, and all that is behind it are numbers
 abbrev pub step_if : Option StepWord → Option (List ℤ) → Option StepPart

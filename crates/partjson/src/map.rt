@@ -90,12 +90,15 @@ impl Slots for MapSlots {
     }
 }
 
-/// Whether a step sets tries.
+/// Whether a step sets how a choose step tries.
 fn sets_tries(step: &StepPart) -> bool
     ensures { result ≡ states_tries step.now }
 {
     match step {
-        StepPart::SetChooseTries(_) | StepPart::SetChooseleafTries(_) => true,
+        StepPart::SetChooseTries(_)
+        | StepPart::SetChooseleafTries(_)
+        | StepPart::SetChooseleafVaryR(_)
+        | StepPart::SetChooseleafStable(_) => true,
         StepPart::Take(_) | StepPart::Choose(_) | StepPart::Emit => false,
     }
 }

@@ -60,6 +60,10 @@ enum StepWord {
     Tries,
     /// `set_chooseleaf_tries`.
     LeafTries,
+    /// `set_chooseleaf_vary_r`.
+    LeafVary,
+    /// `set_chooseleaf_stable`.
+    LeafStable,
 }
 
 impl FromWord for StepWord {
@@ -75,6 +79,8 @@ impl FromWord for StepWord {
             "emit" => Some(StepWord::Emit),
             "set_choose_tries" => Some(StepWord::Tries),
             "set_chooseleaf_tries" => Some(StepWord::LeafTries),
+            "set_chooseleaf_vary_r" => Some(StepWord::LeafVary),
+            "set_chooseleaf_stable" => Some(StepWord::LeafStable),
             _ => None,
         }
     }
@@ -137,6 +143,8 @@ fn step_with(word: StepWord, numbers: &[i128]) -> Option<StepPart>
         StepWord::Emit => emit_step(numbers),
         StepWord::Tries => Some(StepPart::SetChooseTries(one_number(numbers)?)),
         StepWord::LeafTries => Some(StepPart::SetChooseleafTries(one_number(numbers)?)),
+        StepWord::LeafVary => Some(StepPart::SetChooseleafVaryR(one_number(numbers)?)),
+        StepWord::LeafStable => Some(StepPart::SetChooseleafStable(one_number(numbers)?)),
     }
 }
 

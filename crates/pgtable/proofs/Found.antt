@@ -3,7 +3,7 @@ use Rattle.std.proofs.Common.{◌≡◌, refl, ℕ, zero, suc, ◌<◌, ◌≤�
 use Rattle.std.specs.Prelude.{IfSome, nat_lt}
 use Rattle.std.specs.List.{All, find}
 use Rattle.std.proofs.lemmas.Bool.Decides.{nat_tests}
-use Rattle.std.proofs.lemmas.List.{length-map}
+use Rattle.std.proofs.lemmas.List.{length-map, get_or-map}
 use Rattle.std.proofs.lemmas.List.FromFn.{length-range_with_len, length-map-range_with_len}
 use Rattle.keylist.specs.Order.{IsRising}
 use Rattle.keylist.proofs.KeyedOrder.{rising_head, rising_tail}
@@ -12,7 +12,7 @@ use Rattle.osdmap.specs.Maps.{ClusterMap, osd_exists, HoldsTogether}
 use Rattle.osdmap.specs.Placement.{mapped_set}
 use Rattle.osdmap.proofs.Named.{below_max}
 use Rattle.osdmap.proofs.MappedExist.{mapped_exist}
-use Rattle.pgtable.specs.Tables.{sets_of, ups_of, pool_table, tables_of}
+use Rattle.pgtable.specs.Tables.{sets_of, ups_of, pool_table, table_id, tables_of}
 
 -- an element of a list with rising keys is what is found of its key
 pub found_at : {X : Type 0} (key : X → ℕ) (xs : List X) (i : ℕ) (x : X) → IsRising key xs → i < length xs → x ≡ get_or xs i x → find (λ y. eqb (key y) (key x)) xs ≡ Some x
@@ -46,6 +46,14 @@ few_sets m p sets few is = rw is (omega (arith, length-map-range_with_len (mappe
 -- there are as many tables as pools
 pub few_tables : (m : ClusterMap) (n : ℕ) → length m.pools ≤ n → length (tables_of m) ≤ n
 few_tables m n few = omega (arith, length-map m.pools (pool_table m))
+
+-- their pools rise as well
+pub rising_tables : (m : ClusterMap) → HoldsTogether m → IsRising table_id (tables_of m)
+rising_tables m holds i j d less inside =
+    let last : j < length m.pools = omega (arith, length-map m.pools (pool_table m), inside) in
+    let first = get_or-map (pool_table m) m.pools i d.pool d (omega arith) in
+    let second = get_or-map (pool_table m) m.pools j d.pool d last in
+    rw (first, second) (holds.pools_rise i j d.pool less last)
 
 -- and as many bits as OSDs
 pub few_ups : (m : ClusterMap) (n : ℕ) → length m.presences ≤ n → length (ups_of m) ≤ n

@@ -8,4 +8,5 @@ pub mod Concerning
 pub mod Slicing
 pub mod States
 pub mod ChangedSets
+pub mod PoolPatches
 pub mod PatchedInPlace

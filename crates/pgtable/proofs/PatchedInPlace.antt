@@ -1,25 +1,28 @@
 -- Tables whose pools all stay in place: other sets for groups of one after another, and these put in.
-use Rattle.std.proofs.Common.{◌≡◌, ◌∙◌, refl, sym, ap, ℕ, ◌⊎◌, ◌+◌, ◌<◌, ◌≤◌, List, [], ◌∷◌, ◌++◌, length, map, set, take, Option, Some, None, inl, inr, arith}
-use Rattle.std.specs.Prelude.{slice_get, IfSome}
+use Rattle.std.proofs.Common.{◌≡◌, ◌∙◌, refl, sym, ap, ℕ, suc, ◌⊎◌, ◌+◌, ◌<◌, ◌≤◌, Bool, true, List, [], ◌∷◌, ◌++◌, length, map, replicate, take, Option, Some, None, inl, inr, arith}
+use Rattle.std.specs.Prelude.{slice_get}
 use Rattle.std.specs.List.{zip, sum_by}
 use Rattle.std.specs.Option.{option_map}
-use Rattle.std.proofs.lemmas.Bool.{cases_order, cases_lt}
-use Rattle.std.proofs.lemmas.List.{length-map, length-set, length-append, take_all}
+use Rattle.std.proofs.lemmas.Bool.{cases_lt}
+use Rattle.std.proofs.lemmas.List.{length-map, length-append, length-replicate, take_all}
 use Rattle.std.proofs.lemmas.List.Sums.{sum_by-cons}
 use Rattle.std.proofs.lemmas.Option.{slice_get-map, slice_get_within, get_or_from_slice_get}
 use Rattle.grouptable.specs.Sets.{GroupSets}
-use Rattle.grouptable.specs.Tables.{IsPatchFor}
 use Rattle.grouptable.specs.declared.table.GroupPatch.{GroupPatch}
 use Rattle.maptypes.specs.declared.change.ChangeParts.{ChangeParts}
+use Rattle.maptypes.specs.declared.pg.Pg.{Pg}
 use Rattle.maptypes.specs.Pools.{PoolFacts}
 use Rattle.osdmap.specs.Maps.{ClusterMap, pool_at, HoldsTogether}
 use Rattle.osdmap.specs.Evals.{evals_of}
-use Rattle.pgtable.proofs.ChangedSets.{LeavesRawSets, pools_stay}
+use Rattle.pgtable.proofs.ChangedSets.{LeavesRawSets, pools_stay, none_touched, source_concerned, none_concerned}
+use Rattle.pgtable.proofs.Keeping.{evals_changes, lead_none}
 use Rattle.pgtable.specs.declared.pool_table.PoolTable.{PoolTable}
 use Rattle.pgtable.specs.Tables.{TableFacts, pool_table, tables_of, IsTableOf}
-use Rattle.pgtable.specs.Patches.{changed_map, LeadGroups, FitGroups, evals_in, with_patch}
-use Rattle.pgtable.proofs.KeptTables.{same_lists, get_set_other, get_set_same, long_zip, get_zip}
+use Rattle.pgtable.specs.Candidates.{IsCandidates}
+use Rattle.pgtable.specs.Patches.{changed_map, changes_of, is_empty, with_sets, IsSource, LeadGroups, LeadsFrom, FitGroups, evals_in, with_patch}
+use Rattle.pgtable.proofs.KeptTables.{same_lists, long_zip, get_zip}
 use Rattle.pgtable.proofs.Found.{found_at}
+use Rattle.pgtable.proofs.PoolPatches.{same_everywhere}
 use Rattle.pgtable.proofs.Making.{element, get_before, get_behind, get_past, evals_whole}
 
 -- ---- all pools
@@ -78,59 +81,6 @@ module _ (old : List PoolTable) (m : ClusterMap) where
           ∙ ap (λ (groups : GroupSets). Some (record { pool = q.0.pool; groups = groups })) (sofar.each k q.0 one.0 q.1 one.1).sets
           ∙ sym (slice_get-map (pool_table m) m.pools k ∙ ap (option_map (pool_table m)) (pools k q.0 q.1))
 
--- ---- into the tables
-
--- the first tables have what they get, and all others are as they were
-pub record InstalledFirst (old : List PoolTable) (patches0 : List (Option GroupPatch)) (i : ℕ) (pools : List PoolTable) (patches : List (Option GroupPatch)) : Type 0 where
-  pub long : length pools ≡ length old
-  pub patches_long : length patches ≡ length patches0
-  pub done : (k : ℕ) → k < i → slice_get pools k ≡ slice_get (map (λ e. with_patch e.0 e.1) (zip old patches0)) k
-  pub rest : (k : ℕ) → i ≤ k → slice_get pools k ≡ slice_get old k
-  pub patches_rest : (k : ℕ) → i ≤ k → slice_get patches k ≡ slice_get patches0 k
-
-module _ (old : List PoolTable) (patches0 : List (Option GroupPatch)) (fits : FitGroups old patches0) where
-  -- none so far
-  pub install_begins : InstalledFirst old patches0 0 old patches0
-  install_begins = record {
-    long = refl;
-    patches_long = refl;
-    done = λ k less. absurd (omega arith);
-    rest = λ k past. refl;
-    patches_rest = λ k past. refl;
-  }
-
-  module _ (i : ℕ) (pools : List PoolTable) (patches : List (Option GroupPatch)) (sofar : InstalledFirst old patches0 i pools patches) where
-    -- what the next one gets fits it
-    pub install_fits : (q : PoolTable) (one : Option GroupPatch) → slice_get pools i ≡ Some q → slice_get patches i ≡ Some one → IfSome one (IsPatchFor q.groups)
-    install_fits q None here is = tt
-    install_fits q (Some g) here is = fits.each i q g (sym (sofar.rest i (omega arith)) ∙ here) (sym (sofar.patches_rest i (omega arith)) ∙ is)
-
-    -- one more
-    pub install_step : (before after : PoolTable) (one : Option GroupPatch) → slice_get pools i ≡ Some before → slice_get patches i ≡ Some one → after ≡ with_patch before one → i < length old
-        → InstalledFirst old patches0 (i + 1) (set pools i after) (set patches i None)
-    install_step before after one here is made inside =
-        let at0 = sym (sofar.rest i (omega arith)) ∙ here in
-        let is0 = sym (sofar.patches_rest i (omega arith)) ∙ is in
-        record {
-          long = length-set pools i after ∙ sofar.long;
-          patches_long = length-set patches i None ∙ sofar.patches_long;
-          done = λ k less. elim (cases_order k i) [
-            | inl e ↦
-                rw e (get_set_same pools i after (omega (arith, sofar.long)) ∙ ap (λ x. Some x) made
-                ∙ sym (slice_get-map (λ e'. with_patch e'.0 e'.1) (zip old patches0) i ∙ ap (option_map (λ e'. with_patch e'.0 e'.1)) (get_zip old patches0 i before one at0 is0)))
-            | inr (inl below) ↦ get_set_other pools i k after (λ e. omega arith) ∙ sofar.done k below
-            | inr (inr above) ↦ absurd (omega arith)
-          ];
-          rest = λ k past. get_set_other pools i k after (λ e. omega arith) ∙ sofar.rest k (omega arith);
-          patches_rest = λ k past. get_set_other patches i k None (λ e. omega arith) ∙ sofar.patches_rest k (omega arith);
-        }
-
-    -- and all of them
-    pub install_ends : length pools ≤ i → pools ≡ map (λ e. with_patch e.0 e.1) (zip old patches0)
-    install_ends past =
-        let long = long_zip old patches0 fits.same in
-        same_lists pools (map (λ e. with_patch e.0 e.1) (zip old patches0)) (sofar.long ∙ sym (length-map (zip old patches0) (λ e. with_patch e.0 e.1) ∙ long)) (λ k inside. sofar.done k (omega arith))
-
 -- ---- evaluations
 
 -- those of all pools, by their tables
@@ -174,3 +124,43 @@ pub lead_in_place : (t : TableFacts) (m : ClusterMap) (c : ChangeParts) (patches
     → FitGroups t.pools patches × (map (λ e. with_patch e.0 e.1) (zip t.pools patches) ≡ tables_of (changed_map m c))
 lead_in_place t m c patches is s sofar =
     lead_ends t.pools (changed_map m c) patches (ap length is.pools ∙ length-map m.pools (pool_table m) ∙ sym (ap length (pools_stay m c s))) (λ k q at. rw (pools_stay m c s) ((table_at t m k q is at).2)) sofar
+
+-- ---- a change that concerns no group
+
+module _ (t : TableFacts) (m : ClusterMap) (c : ChangeParts) (source : ClusterMap) (is_after : Bool) (groups : List Pg) (is : IsTableOf t m) (s : LeavesRawSets c) (leads : LeadsFrom m c (changed_map m c))
+    (is_source : IsSource m c source is_after) (candidates : IsCandidates source c groups) (idle : is_empty groups ≡ true) where
+  -- no group of a pool that stands at a position is concerned
+  idle_numbers : (k : ℕ) (q : PoolTable) → slice_get t.pools k ≡ Some q → [] ≡ changes_of (changed_map m c) c q.pool
+  idle_numbers k q at =
+      let numbers = source_concerned m source c q.pool is_after is_source in
+      ap (with_sets (changed_map m c) q.pool) (none_concerned source c q.pool groups candidates idle ∙ numbers)
+
+  -- so it keeps its sets
+  idle_lead : (k : ℕ) (q : PoolTable) → slice_get t.pools k ≡ Some q → LeadGroups (changed_map m c) q.pool q.groups None
+  idle_lead k q at =
+      let here = table_at t m k q is at in
+      let there : pool_at (changed_map m c).pools q.pool.id ≡ Some q.pool = rw (pools_stay m c s) here.1 in
+      lead_none m (changed_map m c) c q.pool leads there (none_touched (changed_map m c) c q.pool s) q.groups [] (ap (λ (r : PoolTable). r.groups) here.0) (idle_numbers k q at) refl
+
+  -- all do
+  pub idle_leads : LeadFirst t.pools (changed_map m c) (length t.pools) (replicate (length t.pools) None)
+  idle_leads = record {
+    long = length-replicate (length t.pools) None;
+    each = λ k q one there at.
+        let none : None ≡ one = same_everywhere (length t.pools) k None one at in
+        rw (← none) (idle_lead k q there);
+  }
+
+  -- and nothing is evaluated
+  pub idle_evals : 0 ≡ evals_of (changed_map m c) c
+  idle_evals =
+      sym (none_in t.pools (λ k q at. sym (evals_changes (changed_map m c) c q.pool [] 0 (none_touched (changed_map m c) c q.pool s) (idle_numbers k q at) refl)))
+      ∙ ap (sum_by (λ (q : PoolTable). evals_in (changed_map m c) c q.pool)) (sym (take_all (length t.pools) t.pools (omega arith)))
+      ∙ evals_in_place t m c (length t.pools) is s (omega arith)
+    where
+      zero_plus : (n : ℕ) → 0 + n ≡ n
+      zero_plus n = omega arith
+
+      none_in : (ps : List PoolTable) → ((k : ℕ) (q : PoolTable) → slice_get ps k ≡ Some q → evals_in (changed_map m c) c q.pool ≡ 0) → sum_by (λ (q : PoolTable). evals_in (changed_map m c) c q.pool) ps ≡ 0
+      none_in [] each = refl
+      none_in (p ∷ ps) each = sum_by-cons (λ (q : PoolTable). evals_in (changed_map m c) c q.pool) p ps ∙ ap (λ n. n + sum_by (λ (q : PoolTable). evals_in (changed_map m c) c q.pool) ps) (each 0 p refl) ∙ zero_plus _ ∙ none_in ps (λ k q at. each (suc k) q at)

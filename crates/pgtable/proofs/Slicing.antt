@@ -1,7 +1,8 @@
 -- Groups in ascending order of which those of a pool are one slice.
 use Rattle.std.proofs.Common.{◌≡◌, ◌∙◌, refl, sym, ap, ℕ, zero, suc, ◌+◌, ◌-◌, ◌*◌, ◌^◌, ◌<◌, ◌≤◌, Bool, true, false, ◌&&◌, List, [], ◌∷◌, length, get_or, take, drop, None, inl, inr, arith}
 use Rattle.std.specs.Prelude.{nat_lt, nat_le}
-use Rattle.std.specs.List.{filter, between}
+use mathlib.Core.Bool.{false≢true}
+use Rattle.std.specs.List.{filter, list_any, between}
 use Rattle.std.proofs.lemmas.Bool.{cases_Bool}
 use Rattle.std.proofs.lemmas.Bool.Decides.{nat_tests}
 use Rattle.std.proofs.lemmas.Slice.{between_to_end}
@@ -86,3 +87,14 @@ numbers-in_pool m c p groups slice e = rw e (all groups)
 -- groups from the key of a pool's first group on, and of these those before the key behind its last, are those in it
 pub in_pool : (p : PoolFacts) (first end : ℕ) (later slice groups : List Pg) → later ≡ filter (λ g. nat_le first (pg_key g)) groups → slice ≡ filter (λ g. nat_lt (pg_key g) end) later → (first ≡ p.id * 2 ^ 32) × (end ≡ p.id * 2 ^ 32 + p.pg_num) → slice ≡ filter (is_of_pool p) groups
 in_pool p first end later slice groups e f is = f ∙ rw (e, is.0, is.1) (filter-filter (λ g. nat_le (p.id * 2 ^ 32) (pg_key g)) (λ g. nat_lt (pg_key g) (p.id * 2 ^ 32 + p.pg_num)) groups)
+
+-- where no group stands in a pool, none has a number there
+pub none_in_pool : (m : ClusterMap) (c : ChangeParts) (p : PoolFacts) (groups : List Pg) → list_any (is_of_pool p) groups ≡ false → [] ≡ numbers_in m c p groups
+none_in_pool m c p groups none = numbers-in_pool m c p groups [] (none_pass groups none)
+  where
+    none_pass : (gs : List Pg) → list_any (is_of_pool p) gs ≡ false → [] ≡ filter (is_of_pool p) gs
+    none_pass [] out = refl
+    none_pass (g ∷ gs) out = elim (cases_Bool (is_of_pool p g)) [
+      | inl inside ↦ let wrong : true ≡ false = rw inside at out in absurd (false≢true (sym wrong))
+      | inr other ↦ rw other (none_pass gs (rw other at out))
+    ]

@@ -2,4 +2,5 @@ pub mod Index
 pub mod Tables
 pub mod Candidates
 pub mod Patches
+pub mod PoolPatches
 pub mod After

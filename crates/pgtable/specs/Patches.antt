@@ -23,7 +23,10 @@ use Rattle.pgtable.specs.declared.patch.NewTables.{NewTables}
 use Rattle.pgtable.specs.declared.patch.TablePatch.{TablePatch}
 use Rattle.pgtable.specs.declared.patch.TablePatch.TheVariants.{Groups, Pools}
 use Rattle.pgtable.specs.declared.patch.Patch.{Patch}
-use Rattle.pgtable.specs.Tables.{TableFacts, pool_table, tables_of, IsTableOf}
+use Rattle.pgtable.specs.PoolPatches.{patches_by}
+use Rattle.pgtable.specs.declared.group_patches.GroupPatches.{GroupPatches}
+use Rattle.keylist.specs.Order.{IsRising}
+use Rattle.pgtable.specs.Tables.{TableFacts, table_id, pool_table, tables_of, IsTableOf}
 
 -- the map after a change, one epoch on
 abbrev pub changed_map : ClusterMap → ChangeParts → ClusterMap
@@ -113,6 +116,10 @@ pub record FitGroups (old : List PoolTable) (patches : List (Option GroupPatch))
   pub each : (i : ℕ) (q : PoolTable) (g : GroupPatch) → slice_get old i ≡ Some q → slice_get patches i ≡ Some (Some g) →
       IsPatchFor q.groups g
 
+-- the other sets of groups of pools, by position
+abbrev pub patches_of : GroupPatches → List (Option GroupPatch)
+patches_of patches = patches_by patches.some.items patches.count
+
 -- what is kept is there, and gets other sets for groups that it has
 pub record FitsAt (old : List PoolTable) (k : KeptTable) : Type 0 where
   pub inside : k.at < length old
@@ -151,19 +158,20 @@ pub record FitPools (t : TableFacts) (b : NewTables) : Type 0 where
 
 -- a patch of the tables of pools fits a table
 abbrev pub FitsTables : TableFacts → TablePatch → Type 0
-FitsTables t (Groups patches) = FitGroups t.pools patches.items
+FitsTables t (Groups patches) = FitGroups t.pools (patches_of patches)
 FitsTables t (Pools b) = FitPools t b
-
--- a patch fits a table
-pub record Fits (t : TableFacts) (p : Patch) : Type 0 where
-  pub pools : FitsTables t p.tables
-  pub few_osds : length p.up.items ≤ max_devices
 
 -- the tables of pools after a patch: the old ones with other sets for some groups; or the new ones, with what
 -- they keep of the old ones
 abbrev pub pools_after_patch : List PoolTable → TablePatch → List PoolTable
-pools_after_patch old (Groups patches) = map (λ e. with_patch e.0 e.1) (zip old patches.items)
+pools_after_patch old (Groups patches) = map (λ e. with_patch e.0 e.1) (zip old (patches_of patches))
 pools_after_patch old (Pools b) = map (λ e. with_kept old e.0 e.1) (zip b.pools.items b.kept.items)
+
+-- a patch fits a table: afterwards too each pool's id is above those before it
+pub record Fits (t : TableFacts) (p : Patch) : Type 0 where
+  pub pools : FitsTables t p.tables
+  pub rise : IsRising table_id (pools_after_patch t.pools p.tables)
+  pub few_osds : length p.up.items ≤ max_devices
 
 -- a patch makes of the tables of pools those of a map
 pub record LeadTables (m : ClusterMap) (t : TableFacts) (b : TablePatch) : Type 0 where

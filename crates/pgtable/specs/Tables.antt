@@ -16,6 +16,10 @@ pub record TableFacts : Type 0 where
   pub pools : List PoolTable
   pub up : List Bool
 
+-- the id of a table's pool
+abbrev pub table_id : PoolTable → ℕ
+table_id q = q.pool.id
+
 -- ---- the table of a map
 
 -- the mapped sets of all groups of a pool

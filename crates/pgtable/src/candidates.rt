@@ -1,6 +1,7 @@
 //! The groups that a change can concern.
 
-ghost use Rattle.std.specs.Prelude.{◌≡◌, ◌<◌, ◌≤◌, ℕ, [], true, None, length, nat_le, nat_lt, filter, slice_index_or, IfOk, OnOk};
+ghost use Rattle.std.specs.Prelude.{◌≡◌, ◌<◌, ◌≤◌, ℕ, [], true, false, None, length, nat_le, nat_lt, filter, slice_index_or, IfOk, OnOk};
+ghost use Rattle.std.specs.List.{list_any};
 ghost use Rattle.keylist.specs.Order.{IsRising};
 ghost use Rattle.maptypes.specs.Exceptions.{pg_key, key_of};
 ghost use Rattle.maptypes.specs.declared.pg.Pg.{Pg};
@@ -170,4 +171,30 @@ pub(crate) fn groups_for<'a>(pool: &Pool, groups: &'a [Pg]) -> &'a [Pg]
     } else {
         slice_in(pool, groups)
     }
+}
+
+/// Whether a group stands in a pool.
+fn is_in(pool: &Pool, group: Pg) -> bool
+    ensures { result ≡ is_of_pool pool.now group }
+{
+    let first = Pg {
+        pool: pool.id(),
+        number: 0,
+    };
+    let key = group.key();
+    first.key() <= key && key < first.key() + u64::from(pool.pg_num())
+}
+
+/// Whether one of some groups stands in a pool.
+fn any_in(pool: &Pool, groups: &[Pg]) -> bool
+    ensures { result ≡ list_any (is_of_pool pool.now) groups.now }
+{
+    groups.iter().any(|group| is_in(pool, *group))
+}
+
+/// Whether some groups may stand in a pool: where there are many, they may.
+pub(crate) fn may_be_in(pool: &Pool, groups: &[Pg]) -> bool
+    ensures { result ≡ false → (m : ClusterMap) (c : ChangeParts) → [] ≡ numbers_in m c pool.now groups.now }
+{
+    MANY <= groups.len() || any_in(pool, groups)
 }

@@ -4,8 +4,10 @@ ghost use Rattle.std.specs.Prelude.{◌≡◌, ◌≢◌, ℕ, length, map, slic
 ghost use Rattle.std.specs.List.{zip};
 ghost use Rattle.pgtable.specs.declared.patch.KeptTable.{KeptTable};
 ghost use Rattle.grouptable.specs.Tables.{IsPatchFor};
-ghost use Rattle.pgtable.specs.Patches.{with_kept, with_patch, FitsAt, FitAll, FitGroups};
+ghost use Rattle.pgtable.specs.Patches.{with_kept, with_patch, FitsAt, FitAll, FitGroups, patches_of};
+ghost use Rattle.pgtable.specs.PoolPatches.{patches_by, AreBelow};
 
+use crate::group_patches::{GroupPatches, PoolPatch};
 use crate::patch::{KeptTable, NewTables, Patch, TablePatch};
 use crate::pool_table::PoolTable;
 use crate::table::PgTable;
@@ -58,23 +60,32 @@ fn keep_all(old: &mut [PoolTable], pools: &mut [PoolTable], mut kept: Vec<Option
     }
 }
 
-/// Gives some groups of each pool other sets. It takes no memory.
-fn install_all(pools: &mut [PoolTable], mut patches: Vec<Option<GroupPatch>>)
-    requires { FitGroups pools.old patches.items }
-    ensures { pools.new ≡ map (λ e. with_patch e.0 e.1) (zip pools.old patches.items) }
+/// Puts other sets into the tables of their pools. It takes no memory.
+fn install_some(pools: &mut [PoolTable], mut some: Vec<PoolPatch>)
+    requires below { AreBelow some.items (length pools.old) }
+    requires fit { FitGroups pools.old (patches_by some.items (length pools.old)) }
+    ensures { pools.new ≡ map (λ e. with_patch e.0 e.1) (zip pools.old (patches_by some.items (length pools.old))) }
 {
-    let most = pools.len();
-    for at in 0..most {
-        let one = patches[at].take();
-        install_groups(&mut pools[at], one);
+    while let Some(one) = some.pop() {
+        let at = one.at;
+        install_groups(&mut pools[at], Some(one.patch));
     }
+}
+
+/// Gives groups of the pools their other sets. It takes no memory.
+fn install_all(pools: &mut [PoolTable], patches: GroupPatches)
+    requires { FitGroups pools.old (patches_of patches) }
+    ensures { pools.new ≡ map (λ e. with_patch e.0 e.1) (zip pools.old (patches_of patches)) }
+{
+    install_some(pools, patches.some);
 }
 
 impl PgTable {
     ghost use Rattle.std.specs.Prelude.{◌≡◌};
     ghost use Rattle.pgtable.specs.Patches.{FitsTables, Fits, LeadsTo, after_patch, pools_after_patch};
     ghost use Rattle.osdmap.specs.Maps.{ClusterMap};
-    ghost use Rattle.pgtable.specs.Tables.{IsTableOf};
+    ghost use Rattle.keylist.specs.Order.{IsRising};
+    ghost use Rattle.pgtable.specs.Tables.{table_id, IsTableOf};
 
     /// Makes of the table what a patch of it leads to. It takes no memory.
     pub fn install(&mut self, patch: Patch)
@@ -88,7 +99,8 @@ impl PgTable {
 
     /// Gives some groups of the pools other sets, or makes other tables those of the pools.
     fn install_tables(&mut self, tables: TablePatch)
-        requires { FitsTables self.old tables }
+        requires fits { FitsTables self.old tables }
+        requires rise { IsRising table_id (pools_after_patch self.old.pools tables) }
         ensures pools { self.new.pools ≡ pools_after_patch self.old.pools tables }
         ensures up { self.new.up ≡ self.old.up }
     {

@@ -4,7 +4,8 @@
 //!
 //! - `table`, `pool_table`: the table of a map and what it shows, and the part of one pool
 //! - `mapped`, `shown`: mapped sets as they are stored, and as callers see them
-//! - `patch`, `prepare`, `install`: what a change makes of a table, how it is found, and how it is put in
+//! - `patch`, `group_patches`, `prepare`, `install`: what a change makes of a table, how it is found, and how it is put
+//!   in
 //! - `candidates`, `concerned`: the groups whose exceptions a change can concern, and those of a pool that it does
 //! - `update`, `sets`: a change with the source of the sets after it, and these sets
 //! - `table_patch`: what a change makes of the tables of all pools
@@ -12,6 +13,7 @@
 
 mod candidates;
 mod concerned;
+mod group_patches;
 mod install;
 mod mapped;
 pub mod patch;

@@ -1,5 +1,6 @@
 //! Patches: what a change makes of a table.
 
+use crate::group_patches::GroupPatches;
 use crate::pool_table::PoolTable;
 use grouptable::GroupPatch;
 
@@ -23,7 +24,7 @@ pub(crate) struct NewTables {
 #[derive(Drop)]
 pub(crate) enum TablePatch {
     /// All stay in place, those that have a patch here with other sets for some groups.
-    Groups(Vec<Option<GroupPatch>>),
+    Groups(GroupPatches),
     /// Others take their place.
     Pools(NewTables),
 }

@@ -8,6 +8,7 @@ use crate::mapped::all_mapped_sets;
 use crate::shown::places_in;
 use crush::Work;
 use grouptable::GroupTable;
+use keylist::Keyed;
 use maptypes::{Pg, Pool, Short};
 use osdmap::OsdMap;
 use refusal::Memory;
@@ -93,5 +94,13 @@ impl PoolTable {
             })?;
         }
         Ok(())
+    }
+}
+
+impl Keyed for PoolTable {
+    ghost key_of = { λ table. table.pool.id };
+
+    fn key(&self) -> u64 {
+        u64::from(self.pool.id())
     }
 }

@@ -8,7 +8,7 @@ ghost use Rattle.crush.specs.Limits.{max_size};
 ghost use Rattle.maptypes.specs.Exceptions.{pg_key, key_of};
 ghost use Rattle.pgtable.specs.Patches.{said_after};
 
-use crate::candidates::names_rise;
+use crate::candidates::{may_be_in, names_rise};
 use crate::concerned::concerned_numbers;
 use crate::mapped::{mapped_set, store_set};
 use crate::patch::PatchedGroups;
@@ -41,11 +41,11 @@ fn said_after<'a, E: Blank>(
 }
 
 impl Update<'_> {
-    ghost use Rattle.std.specs.Prelude.{◌≡◌, ◌<◌, true, false, length, Some, IfOk, OnOk, All};
+    ghost use Rattle.std.specs.Prelude.{◌≡◌, ◌<◌, true, false, [], length, Some, IfOk, OnOk, All};
     ghost use Rattle.osdmap.specs.Maps.{pool_at};
     ghost use Rattle.osdmap.specs.Placement.{mapped_set, RunsOnce};
     ghost use Rattle.pgtable.specs.After.{map_after, HasPool, is_touched_by, pool_evals};
-    ghost use Rattle.pgtable.specs.Patches.{with_sets, LeadGroups};
+    ghost use Rattle.pgtable.specs.Patches.{concerned_numbers, with_sets, LeadGroups};
     ghost use Rattle.pgtable.specs.Tables.{pool_table, RunsMore};
 
     /// The mapped set of a group of a pool by the map after the change; or `Memory` (30).
@@ -134,9 +134,18 @@ impl Update<'_> {
         Ok(changes)
     }
 
+    /// Whether the change may concern exceptions of groups of a pool.
+    fn may_concern(&self, pool: &Pool) -> bool
+        ensures { result ≡ false → [] ≡ concerned_numbers self.now.source.now.map self.now.change.now pool.now }
+    {
+        self.holds();
+        may_be_in(pool, &self.groups)
+    }
+
     /// Other sets for the groups of a pool whose exceptions the change concerns, where it does not touch the pool as a
     /// whole, by a run of the pool's rule for each of them; or `Memory` (30).
-    pub fn patch_groups(
+    #[inline(never)]
+    fn patch_concerned(
         &self,
         alloc: Global,
         pool: &Pool,
@@ -151,13 +160,6 @@ impl Update<'_> {
         ensures runs { OnOk result (RunsMore (pool_evals self.now pool.now) work.old work.new) }
     {
         self.holds();
-        if self.is_idle() {
-            let _ = work.runs();
-            return Ok(PatchedGroups {
-                patch: None,
-                evals: 0,
-            });
-        }
         let numbers = concerned_numbers(alloc, self.source, self.change, pool, &self.groups)?;
         if numbers.is_empty() {
             let _ = work.runs();
@@ -173,5 +175,33 @@ impl Update<'_> {
             patch: Some(patch),
             evals,
         })
+    }
+
+    /// Other sets for the groups of a pool whose exceptions the change concerns, where it does not touch the pool as a
+    /// whole, by a run of the pool's rule for each of them; or `Memory` (30).
+    #[inline(always)]
+    pub fn patch_groups(
+        &self,
+        alloc: Global,
+        pool: &Pool,
+        groups: &GroupTable,
+        work: &mut Work,
+    ) -> Result<PatchedGroups, Memory>
+        requires groups { groups.now ≡ (pool_table self.now.before.now.map pool.now).groups }
+        requires there { HasPool self.now pool.now }
+        requires untouched { is_touched_by self.now pool.now ≡ false }
+        ensures lead { IfOk result (λ r. LeadGroups (map_after self.now) pool.now groups.now r.patch) }
+        ensures evals { IfOk result (λ r. r.evals ≡ pool_evals self.now pool.now) }
+        ensures runs { OnOk result (RunsMore (pool_evals self.now pool.now) work.old work.new) }
+    {
+        self.holds();
+        if !self.may_concern(pool) {
+            let _ = work.runs();
+            return Ok(PatchedGroups {
+                patch: None,
+                evals: 0,
+            });
+        }
+        self.patch_concerned(alloc, pool, groups, work)
     }
 }

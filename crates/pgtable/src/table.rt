@@ -7,6 +7,7 @@ ghost use Rattle.pgtable.specs.Tables.{ups_of};
 use crate::pool_table::PoolTable;
 use crate::shown::show_set;
 use crush::Work;
+use keylist::entry_of;
 use maptypes::{Pg, UpSet};
 use osdmap::OsdMap;
 use refusal::Memory;
@@ -24,7 +25,8 @@ impl Model for PgTable {
     ghost use Rattle.std.specs.Prelude.{◌≤◌, length};
     ghost use Rattle.buckets.specs.Limits.{max_devices};
     ghost use Rattle.mapparts.specs.Limits.{max_pools};
-    ghost use Rattle.pgtable.specs.Tables.{TableFacts};
+    ghost use Rattle.keylist.specs.Order.{IsRising};
+    ghost use Rattle.pgtable.specs.Tables.{TableFacts, table_id};
 
     ghost Value = { TableFacts };
 
@@ -32,6 +34,7 @@ impl Model for PgTable {
 
     ghost invariant = { λ t. record {
       few_pools : length t.pools.items ≤ max_pools;
+      pools_rise : IsRising table_id t.pools.items;
       few_osds : length t.up.items ≤ max_devices;
     } };
 }
@@ -102,11 +105,11 @@ impl PgTable {
         &self.pools
     }
 
-    /// The pool of an id.
+    /// The pool of an id; by halving.
     fn pool(&self, id: u32) -> Option<&PoolTable>
         ensures { option_copied result ≡ pool_in self.now id }
     {
-        self.pools.iter().find(|table| table.pool.id() == id)
+        entry_of(&self.pools, u64::from(id))
     }
 
     /// Whether an OSD is up.

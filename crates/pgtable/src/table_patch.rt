@@ -2,6 +2,7 @@
 
 ghost use Rattle.std.specs.Prelude.{◌≡◌, ◌==◌, position};
 
+use crate::group_patches::GroupPatches;
 use crate::patch::{KeptTable, NewTable, NewTables, PatchedTables, TablePatch};
 use crate::pool_table::PoolTable;
 use crate::table::PgTable;
@@ -21,7 +22,7 @@ fn position_of(pools: &[PoolTable], id: u32) -> Option<usize>
 impl PgTable {
     ghost use Rattle.std.specs.Prelude.{◌≡◌, true, slice_get, false, is_some, IfOk, OnOk};
     ghost use Rattle.pgtable.specs.After.{map_after, HasPool, is_touched_by, pool_evals, change_evals};
-    ghost use Rattle.pgtable.specs.Patches.{MakesPool, LeadTables};
+    ghost use Rattle.pgtable.specs.Patches.{is_empty, MakesPool, LeadTables};
     ghost use Rattle.pgtable.specs.Tables.{IsTableOf, pool_in, RunsMore};
 
     /// The position of the pool of an id.
@@ -130,7 +131,7 @@ impl PgTable {
     {
         update.holds();
         let _ = work.runs();
-        let mut patches = Vec::with_capacity(alloc, self.pools().len())?;
+        let mut patches = GroupPatches::none(alloc, 0);
         let mut evals = 0;
         for table in self.pools() {
             let groups = update.patch_groups(alloc, &table.pool, &table.groups, work)?;
@@ -141,6 +142,25 @@ impl PgTable {
             tables: TablePatch::Groups(patches),
             evals,
         })
+    }
+
+    /// What is made of the tables of the pools, which all stay in place, where the change concerns no group: nothing.
+    #[inline(always)]
+    fn leave_all(&self, alloc: Global, update: &Update, work: &mut Work) -> PatchedTables
+        requires table { IsTableOf self.now update.now.before.now.map }
+        requires before { update.now.is_after ≡ false }
+        requires idle { is_empty update.now.groups.items ≡ true }
+        ensures lead { LeadTables (map_after update.now) self.now result.tables }
+        ensures evals { result.evals ≡ change_evals update.now }
+        ensures runs { RunsMore (change_evals update.now) work.old work.new }
+    {
+        update.holds();
+        let _ = work.runs();
+        let patches = GroupPatches::none(alloc, self.pools().len());
+        PatchedTables {
+            tables: TablePatch::Groups(patches),
+            evals: 0,
+        }
     }
 
     /// What a change makes of the tables of all pools; or `Memory` (30). Where the map before the change is the source
@@ -159,6 +179,8 @@ impl PgTable {
     {
         if update.is_after {
             self.replace_tables(alloc, update, work)
+        } else if update.is_idle() {
+            Ok(self.leave_all(alloc, update, work))
         } else {
             self.patch_in_place(alloc, update, work)
         }

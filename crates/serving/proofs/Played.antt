@@ -1,5 +1,5 @@
 -- The texts of sessions.
-use Rattle.std.proofs.Common.{◌≡◌, ◌∙◌, ◌==◌, ◌++◌, Bool, true, false, ◌||◌, refl, ap, sym, subst, [], ◌∷◌, append_assoc, ℕ, List, map, length, Option, None, IfSome, OnOk, Result, Ok, Err}
+use Rattle.std.proofs.Common.{◌≡◌, ◌∙◌, ◌==◌, ◌++◌, true, false, ◌||◌, refl, ap, sym, subst, [], ◌∷◌, append_assoc, ℕ, List, map, length, Option, None, IfSome, OnOk, Result, Ok, Err}
 use Rattle.std.specs.List.{concat, list_any}
 use mathlib.Core.List.{map-map}
 use Rattle.std.specs.Result.{IsErrAnd}

@@ -4,3 +4,7 @@ use Rattle.std.specs.Prelude.{◌≡◌, ℕ, List, ◌++◌, Option, Some}
 -- the writer has these bytes behind those that it had at first, where its contents are known
 abbrev pub IsPutOut : List ℕ → Option (List ℕ) → Option (List ℕ) → Type 0
 IsPutOut bytes first now = (xs : List ℕ) → first ≡ Some xs → now ≡ Some (xs ++ bytes)
+
+-- so many bytes that are not out make a sink full
+abbrev pub full_out : ℕ
+full_out = 65536

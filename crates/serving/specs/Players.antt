@@ -1,13 +1,16 @@
 -- Threads that play sessions.
-use Rattle.std.specs.Prelude.{◌≡◌, ℕ, false, List, All, count_by, slice_index_or}
+use Rattle.std.specs.Prelude.{◌≡◌, ℕ, false, List, [], count_by, slice_index_or}
 use Rattle.std.specs.declared.thread.PromisedHandle.{PromisedHandle}
 use Rattle.monitor.specs.Members.{Monitored, IsPassOf}
+use Rattle.monitor.specs.Ends.{IsCounted}
+use Rattle.monitor.specs.declared.ended.Ended.{Ended}
+use Rattle.monitor.specs.declared.member.Member.{Member}
 use Rattle.serving.specs.declared.part.Part.{Part}
 use Rattle.serving.specs.declared.left.Left.{Left}
 use Rattle.serving.specs.declared.left.LeftOf.{LeftOf}
-use Rattle.epochlog.specs.Epochs.{Seen, Begins}
+use Rattle.epochlog.specs.Epochs.{Seen}
 use Rattle.serving.specs.Pairs.{Pairs}
-use Rattle.serving.specs.Serving.{seen_left, IsLeftBy}
+use Rattle.serving.specs.Serving.{IsLeftBy}
 
 -- a thread that was started for a part, by its number
 abbrev pub IsStartedFor : {T K : Type 0} → Monitored → ℕ → PromisedHandle T (LeftOf K) → Part → Type 0
@@ -23,8 +26,13 @@ abbrev pub KeepsPromise : {T K : Type 0} → ℕ → PromisedHandle T (LeftOf K)
 KeepsPromise number player left =
     IsLeftBy player.promise.monitor.now player.promise.number player.promise.part.now left
 
--- what is left of the sessions of these parts at a monitor, and a pass that has seen all that their members have
-pub record IsSeenBy (monitor : Monitored) (parts : List Part) (lefts : List Left) (pass : Seen) : Type 0 where
+-- what is left of the sessions of these parts at a monitor, and a pass that has seen nothing
+pub record IsLeftAt (monitor : Monitored) (parts : List Part) (lefts : List Left) (pass : Seen) : Type 0 where
   pub left : Pairs (IsLeftBy monitor) 1 parts lefts
   pub pass_is : IsPassOf monitor pass
-  pub begin : All (λ left. Begins (seen_left left) pass.history) lefts
+  pub none : pass.history ≡ []
+
+-- a member is of the row of what its monitor has ended with, which counts what it has seen
+pub record IsCountedIn {K : Type 0} (ended : Ended K) (member : Member) : Type 0 where
+  pub row : member.pass.row ≡ ended.state.value.pass.row
+  pub counted : IsCounted ended member

@@ -19,7 +19,7 @@ pub enum Fault {
     /// The files of a live session have failed, which its thread has told.
     #[error("told")]
     Told,
-    /// A change that a session has seen is not in what the monitor ends with, or not of one session.
+    /// A change that a session has seen is not of one session, or the lock has lost the state.
     #[error("a change is lost")]
     Lost,
     /// Out of memory.
@@ -32,7 +32,7 @@ pub enum Fault {
 pub enum Unplayed {
     /// Out of memory.
     Memory,
-    /// A change that a session has seen is not in what the monitor ends with, or not of one session.
+    /// A change that a session has seen is not of one session, or the lock has lost the state.
     Lost,
 }
 

@@ -90,7 +90,8 @@ impl<W: io::Write> Out<W> {
 }
 
 impl<W: io::Write> Sink for Out<W> {
-    ghost use Rattle.std.specs.Prelude.{◌==◌, ◌++◌, not, false, vec_len};
+    ghost use Rattle.std.specs.Prelude.{◌==◌, ◌++◌, nat_le, not, false, vec_len};
+    ghost use Rattle.serving.specs.Outs.{full_out};
 
     ghost written = { λ out. out.gone.bytes ++ out.kept.bytes.items };
 
@@ -99,6 +100,8 @@ impl<W: io::Write> Sink for Out<W> {
     ghost waits = { λ _. false };
 
     ghost holds_back = { λ out. not (vec_len out.kept.bytes == 0) };
+
+    ghost is_filled = { λ out. nat_le full_out (vec_len out.kept.bytes) };
 
     fn write(&mut self, bytes: &[u8]) -> Result<usize, WriteFailed> {
         if self.kept.bytes.extend_from_slice(bytes).is_err() {

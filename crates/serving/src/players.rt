@@ -1,12 +1,12 @@
 //! The threads that play the sessions of a run: started, joined, and what they have seen made one history, which the
 //! store has kept.
-ghost use Rattle.std.specs.Prelude.{◌≡◌, ◌↔◌, ◌==◌, ◌<◌, ◌+◌, ℕ, true, All, IfOk, MatchOption, length, vec_len};
+ghost use Rattle.std.specs.Prelude.{◌≡◌, ◌↔◌, ◌==◌, ◌<◌, ◌+◌, ℕ, [], true, All, IfOk, MatchOption, length, vec_len};
 ghost use Rattle.std.specs.Bool.{OnTrue};
 ghost use Rattle.epochlog.specs.Epochs.{Begins};
-ghost use Rattle.monitor.specs.Members.{IsMemberOf, IsNewMemberOf, IsPassOf, IsStateOf};
+ghost use Rattle.monitor.specs.Members.{IsMemberOf, IsNewMemberOf, IsPassOf};
 ghost use Rattle.serving.specs.Pairs.{Pairs};
 ghost use Rattle.serving.specs.Serving.{journal_of, seen_left, KeepsAll, IsLeftBy, AreLeftBy};
-ghost use Rattle.serving.specs.Players.{IsStartedFor, KeepsPromise, IsSeenBy, made_by};
+ghost use Rattle.serving.specs.Players.{IsStartedFor, KeepsPromise, IsLeftAt, IsCountedIn, made_by};
 
 use crate::fault::Unplayed;
 use crate::left::{Left, LeftOf};
@@ -15,7 +15,7 @@ use crate::playing::{Stage, play};
 use crate::system::System;
 use epochlog::Pass;
 use keeping::Keeps;
-use monitor::{Member, Monitor, State};
+use monitor::{Ended, Member, Monitor};
 use refusal::Memory;
 use session::{Desk, Open};
 use std::alloc::{AllocError, Global};
@@ -123,15 +123,18 @@ fn join_all<'s, R: Threads, K: Keeps + Drop>(
     Ok(lefts)
 }
 
-/// Joins what the members have seen that are left: after it each of their histories begins the one of the pass.
-fn join_seen<K: Keeps + Drop>(all: &mut Pass, monitor: &Monitor<K>, lefts: &[Left])
-    requires pass { IsPassOf monitor.now all.old }
-    requires members { All (λ left. IsMemberOf monitor.now left.member) lefts.now }
-    ensures pass { IsPassOf monitor.now all.new }
+/// Joins what the members have seen that are left to what their monitor has ended with, which is no less: each of their
+/// histories begins it.
+fn join_seen<K: Keeps + Drop>(all: &mut Pass, ended: &Ended<K>, lefts: &[Left])
+    requires row { all.old.row ≡ ended.now.state.value.pass.row }
+    requires history { all.old.history ≡ ended.now.state.value.pass.history }
+    requires members { All (λ left. IsCountedIn ended.now left.member) lefts.now }
+    ensures row { all.new.row ≡ all.old.row }
+    ensures history { all.new.history ≡ all.old.history }
     ensures begin { All (λ left. Begins (seen_left left) all.new.history) lefts.now }
 {
-    let _ = monitor;
     for left in lefts {
+        ended.bounds(&left.member);
         all.join(left.member.pass());
     }
 }
@@ -158,38 +161,31 @@ fn are_made_once(all: &Pass, first: u64, lefts: &[Left]) -> bool
     true
 }
 
-/// Whether a state has seen all that a pass has which has seen what the state has.
-fn has_seen_all<K: Keeps + Drop>(all: &Pass, state: &State<K>) -> bool
-    requires row { state.now.pass.row ≡ all.now.row }
-    requires begins { Begins state.now.pass.history all.now.history }
-    ensures { (result ≡ true) ↔ (all.now.history ≡ state.now.pass.history) }
-{
-    state.pass().epoch() == all.epoch()
-}
-
-/// Ends a monitor, and joins what its state has seen: whether that is all, and whatever a crash leaves of the store is
-/// all of it, and at most one change more.
-fn join_state<K: Keeps + Drop>(monitor: Monitor<K>, all: &mut Pass) -> bool
-    requires { IsPassOf monitor all.old }
+/// Ends a monitor, and joins what its state has seen to a pass that has seen nothing: what each member has seen that is
+/// left begins that, and whatever a crash leaves of the store is all of it, and at most one change more. `false` only
+/// where [`Monitor::end`] is `None`.
+fn join_state<K: Keeps + Drop>(monitor: Monitor<K>, all: &mut Pass, lefts: &[Left]) -> bool
+    requires pass { IsPassOf monitor all.old }
+    requires none { all.old.history ≡ [] }
+    requires members { All (λ left. IsMemberOf monitor left.member) lefts.now }
     ensures pass { IsPassOf monitor all.new }
-    ensures begins { Begins all.old.history all.new.history }
+    ensures begin { OnTrue result (All (λ left. Begins (seen_left left) all.new.history) lefts.now) }
     ensures kept { OnTrue result (KeepsAll K.may_leave (journal_of monitor.first all.new.history)) }
 {
-    let Some(state) = monitor.into_state() else {
+    let Some(ended) = monitor.end() else {
         return false;
     };
+    let state = ended.state();
     all.join(state.pass());
-    if !has_seen_all(all, &state) {
-        return false;
-    }
+    join_seen(all, &ended, lefts);
     let _ = state.store();
     let _ = state.map();
     true
 }
 
 /// What is left of the sessions of these parts, in their order, each played by a thread of its own, for which it takes
-/// one of the members, who have seen nothing; and a pass that has seen what the members have. All threads are started
-/// before one is joined, and all have ended when it returns. The one error is that memory is short, or that a thread
+/// one of the members, who have seen nothing; and a pass that has seen nothing, made before them. All threads are
+/// started before one is joined, and all have ended when it returns. The one error is that memory is short, or that a thread
 /// cannot be made.
 fn play_in_threads<R: Threads + Wait + Eprint + Sync, K: Keeps + Drop + Send + Sync>(
     system: &System<'_, R>,
@@ -199,7 +195,7 @@ fn play_in_threads<R: Threads + Wait + Eprint + Sync, K: Keeps + Drop + Send + S
 ) -> Result<(Vec<Left>, Pass), Memory>
     requires members { All (IsNewMemberOf monitor.now) members.items }
     requires count { vec_len members ≡ length parts.now }
-    ensures { IfOk result (λ r. IsSeenBy monitor.now parts.now r.0.items r.1) }
+    ensures { IfOk result (λ r. IsLeftAt monitor.now parts.now r.0.items r.1) }
 {
     let rt = system.rt;
     let host = system.host;
@@ -209,12 +205,11 @@ fn play_in_threads<R: Threads + Wait + Eprint + Sync, K: Keeps + Drop + Send + S
         rt,
         move |scope| -> Result<(Vec<Left>, Pass), Memory>
             requires { All (IsNewMemberOf monitor.now) members.items × (vec_len members ≡ length parts.now) }
-            ensures { IfOk result (λ r. IsSeenBy monitor.entry.now parts.entry.now r.0.items r.1) }
+            ensures { IfOk result (λ r. IsLeftAt monitor.entry.now parts.entry.now r.0.items r.1) }
         {
-            let mut all = monitor.pass(alloc)?;
+            let all = monitor.pass(alloc)?;
             let players = start_all(scope, &System { rt, host }, monitor, members, parts)?;
             let lefts = join_all(rt, alloc, players)?;
-            join_seen(&mut all, monitor, lefts.as_slice());
             Ok((lefts, all))
         },
     )
@@ -236,7 +231,9 @@ pub fn play_all<R: Threads + Wait + Eprint + Sync, K: Keeps + Drop + Send + Sync
 {
     let (lefts, mut all) = play_in_threads(system, &monitor, members, parts)?;
     let first = monitor.first_epoch();
-    if !join_state(monitor, &mut all) || !are_made_once(&all, first, lefts.as_slice()) {
+    if !join_state(monitor, &mut all, lefts.as_slice())
+        || !are_made_once(&all, first, lefts.as_slice())
+    {
         return Err(Unplayed::Lost);
     }
     Ok(lefts)

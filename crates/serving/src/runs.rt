@@ -103,8 +103,8 @@ fn open_monitor<K: Keeps + Drop>(
 ///
 /// `Map` with `BadLimit` (12) where the map's epoch is not 1 to 2,147,483,648, and then nothing is put, nor at
 /// `Memory`: memory ran out (30) before the sessions or for one of their texts, or a thread could not be made. Nothing
-/// is put at `Lost` either: a change that a session has seen is not in what the monitor ends with, or not of one
-/// session, which tests alone say does not come. `Told` comes after all is put, where a file of a live session has
+/// is put at `Lost` either: a change that a session has seen is not of one session, or the lock has lost the state,
+/// which tests alone say does not come. `Told` comes after all is put, where a file of a live session has
 /// failed, which its thread tells on standard error.
 /// `Output` comes only where the sink has failed, which then has a beginning of the texts; at every other end it has
 /// not failed.

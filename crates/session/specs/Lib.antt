@@ -8,5 +8,6 @@ pub mod Answers
 pub mod Sessions
 pub mod Ends
 pub mod Readings
+pub mod Holds
 pub mod Watches
 pub mod Alone

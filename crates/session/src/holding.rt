@@ -36,12 +36,13 @@ fn lines_of(answer: &str) -> usize
 }
 
 impl<'a, R: Wait, G: Gate, K: Keeps + Drop> Desk<'a, R, G, K> {
-    ghost use Rattle.std.specs.Prelude.{◌≡◌, ◌<◌, ◌+◌, ◌^◌, ℕ, true, false, length, IfOk};
+    ghost use Rattle.std.specs.Prelude.{◌≡◌, ◌<◌, ◌≤◌, ◌+◌, ◌^◌, ℕ, true, false, length, IfOk};
     ghost use Rattle.monitor.specs.Members.{IsMemberOf};
     ghost use Rattle.monitor.specs.Sharing.{IsSharing};
     ghost use Rattle.session.specs.Sessions.{session_at, stand, stand_in, asking_text, IsAtDesk};
     ghost use Rattle.session.specs.Readings.{IsLeft, IsAsking, AnswersLines};
     ghost use Rattle.session.specs.Ends.{has_sink_failed};
+    ghost use Rattle.session.specs.Holds.{lines_in_a_hold};
 
     /// Answers questions that stand first in a text by the state that a member shares, at most as many as a hold of
     /// the lock has room for: what is left of the text. The text of an answer that counts already is in the progress.
@@ -57,6 +58,7 @@ impl<'a, R: Wait, G: Gate, K: Keeps + Drop> Desk<'a, R, G, K> {
         requires unfailed { W.has_failed sink.old ≡ false }
         requires few { progress.old.number + length text.now < 2 ^ 64 }
         ensures follower { progress.new.follower ≡ progress.old.follower }
+        ensures few { progress.new.number < progress.old.number + lines_in_a_hold }
         ensures left { IfOk result (λ rest. IsLeft progress.old.number progress.new.number text.now rest.now) }
         ensures answers { AnswersLines (session_at self.now G.lets)
             (stand_in hold.entry.shared.now hold.entry.member.now progress.old)
@@ -109,6 +111,7 @@ impl<'a, R: Wait, G: Gate, K: Keeps + Drop> Desk<'a, R, G, K> {
         requires asks { IsAsking asking.line.now asking.question }
         requires few { progress.old.number + length (asking_text asking) < 2 ^ 64 }
         ensures session { IsAtDesk self.now member.new progress.new (W.has_failed sink.new) (has_sink_failed result) }
+        ensures few { progress.new.number ≤ progress.old.number + lines_in_a_hold }
         ensures left { IfOk result (λ rest. IsLeft (progress.old.number + 1) progress.new.number
             asking.entry.rest.now rest.now) }
         ensures answers { AnswersLines (session_at self.now G.lets) (stand member.old progress.old)

@@ -27,6 +27,9 @@ pub trait Sink {
     /// Whether bytes that were put may not be out yet.
     ghost holds_back: { Self → Bool };
 
+    /// Whether so many are not out yet that a session is to have them out before the next line.
+    ghost is_filled: { Self → Bool };
+
     /// Puts the first of the bytes behind those before, and answers how many.
     ///
     /// # Errors
@@ -55,11 +58,13 @@ pub trait Sink {
         requires { has_failed self.old ≡ false }
         ensures same { written self.new ≡ written self.old }
         ensures out { OnOk result (holds_back self.new ≡ false) }
+        ensures room { OnOk result (is_filled self.new ≡ false) }
         ensures fails { has_failed self.new ≡ is_err result };
 
     /// Whether so much is held back that a session is to have it out before the next line.
     fn is_full(&self) -> bool
-        ensures { result ≡ true → holds_back self.now ≡ true };
+        ensures full { result ≡ is_filled self.now }
+        ensures held { result ≡ true → holds_back self.now ≡ true };
 }
 
 /// Puts all the bytes.
@@ -125,6 +130,8 @@ impl Sink for Buffer {
     ghost waits = { λ _. false };
 
     ghost holds_back = { λ _. false };
+
+    ghost is_filled = { λ _. false };
 
     fn write(&mut self, bytes: &[u8]) -> Result<usize, WriteFailed> {
         if self.bytes.extend_from_slice(bytes).is_err() {

@@ -55,6 +55,7 @@ pub(crate) fn flush<W: Sink>(sink: &mut W) -> Result<(), SessionError>
     requires { W.has_failed sink.old ≡ false }
     ensures same { W.written sink.new ≡ W.written sink.old }
     ensures out { OnOk result (W.holds_back sink.new ≡ false) }
+    ensures room { OnOk result (W.is_filled sink.new ≡ false) }
     ensures failed { W.has_failed sink.new ≡ has_sink_failed result }
     ensures write { IfErr result (λ error. error ≡ CannotWrite) }
 {
@@ -66,6 +67,7 @@ pub(crate) fn flush<W: Sink>(sink: &mut W) -> Result<(), SessionError>
 pub(crate) fn flush_if_full<W: Sink>(sink: &mut W) -> Result<(), SessionError>
     requires { W.has_failed sink.old ≡ false }
     ensures same { W.written sink.new ≡ W.written sink.old }
+    ensures room { OnOk result (W.is_filled sink.new ≡ false) }
     ensures failed { W.has_failed sink.new ≡ has_sink_failed result }
     ensures write { IfErr result (λ error. error ≡ CannotWrite) }
 {

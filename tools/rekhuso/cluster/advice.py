@@ -65,7 +65,7 @@ ADVICES = (
     Advice(
         r"straw buckets?, as ", "`ceph osd crush set-all-straw-buckets-to-straw2` makes them straw2 (Nautilus or later)"
     ),
-    Advice(r"^tunable ", "`ceph osd crush tunables jewel` sets all of them, and moves data once{moves}"),
+    Advice(r"^tunable ", "`ceph osd crush tunables jewel` sets all of them, and moves data once"),
     Advice(r"^no tunable ", "take the dump by Ceph 10.2 or later"),
     Advice(r"crush_ruleset in its place", "the tools take the dumps of later ones alone"),
     Advice(

@@ -4,19 +4,21 @@ out.
 
 from __future__ import annotations
 
+import re
 from functools import cached_property
 from typing import Any, Callable
 
-from ..program.map_forms import GROUP_PATTERN, ITEMS, Limits, TRIES, limits_of
+from ..program.map_forms import GROUP_PATTERN, ITEMS, LEAF_WORDS, Limits, SETTING, limits_of
 from ..program.maps import Bucket, Entry, Exceptions, RuleStep, altered, entries_of
-from ..words import some
 from .disks import NEARFULL
 from .dump_types import CrushDump, DumpBucket, DumpItem, DumpOsd, DumpRule, DumpStep, OsdDump
 from .names import Names
+from .tunables import steps_for
 from .weight_sets import compat_weight_set, weight_sets_of
 
 HASHPSPOOL = 1
 KINDS_BY_TYPE = {1: "replicated", 3: "erasure"}
+ERASURE = 3
 # The greatest id of a pool; the limits that depend on buckets are in `map_forms`.
 GREATEST_POOL = 65535
 
@@ -65,6 +67,17 @@ class Cluster:
         """Up to which part an OSD may be filled before it counts as nearly full."""
         own = self.osd_dump.get("nearfull_ratio", 0.0)
         return own if own > 0 else NEARFULL
+
+    @cached_property
+    def erasure_rates(self) -> dict[int, float]:
+        """How many bytes erasure pools take for one that is stored, by the parts that hold data in their profiles."""
+        profiles, found = self.osd_dump.get("erasure_code_profiles", {}), dict[int, float]()
+        for pool in self.pools:
+            own = profiles.get(pool.get("erasure_code_profile", ""))
+            parts = own.get("k", "") if isinstance(own, dict) else ""
+            if pool["type"] == ERASURE and isinstance(parts, str) and re.fullmatch("[1-9][0-9]?", parts):
+                found[pool["pool"]] = pool["size"] / int(parts)
+        return found
 
     def osd_weights(self) -> dict[int, int]:
         """The weights of all OSDs of the tree, also of those that no rule comes to."""
@@ -147,7 +160,7 @@ class Cluster:
         op = step["op"]
         if op == "take":
             return ["take", step["item"]]
-        if op in TRIES:
+        if op in SETTING:
             return [op, step["num"]]
         if op == "emit":
             return ["emit"]
@@ -157,8 +170,9 @@ class Cluster:
         return [op, count + size if self.is_stock and count < 0 else count, kind]
 
     def steps_of(self, rule: DumpRule) -> list[RuleStep]:
-        """The steps of a rule in the map's form. A block that chooses as many as the size less as many or more gives
-        nothing: only the tries that it sets stay, since they hold for the blocks behind it.
+        """The steps of a rule in the map's form, behind those that set tunables. A block that chooses as many as the
+        size less as many or more gives nothing: only the tries that it sets stay, since they hold for the blocks
+        behind it.
         """
         steps: list[RuleStep] = []
         block: list[RuleStep] = []
@@ -168,21 +182,31 @@ class Cluster:
             block.append(own)
             is_idle = is_idle or own[0].startswith("choose") and step["num"] < 0 and own[1] <= 0 and self.is_stock
             if step["op"] == "emit":
-                steps += [own for own in block if own[0] in TRIES] if is_idle else block
+                steps += [own for own in block if own[0] in SETTING] if is_idle else block
                 block, is_idle = [], False
         steps += block
-        while self.is_stock and steps and steps[-1][0] in TRIES:
+        while self.is_stock and steps and steps[-1][0] in SETTING:
             steps.pop()
-        return steps
+        return self.tunable_steps(rule) + steps if steps else []
+
+    def tunable_steps(self, rule: DumpRule) -> list[RuleStep]:
+        """The steps at the front of a rule that stand for tunables, in a stock cluster."""
+        return steps_for(self.crush, rule) if self.is_stock else []
+
+    def sets_leaves(self, rule: DumpRule) -> bool:
+        """Whether a rule sets how leaves are sought, or tunables do."""
+        own = {step[0] for step in self.tunable_steps(rule)} | {step["op"] for step in rule["steps"]}
+        return not own.isdisjoint(LEAF_WORDS)
 
     # Buckets and what they hold
 
     @cached_property
     def limits(self) -> Limits:
-        """The limits of its maps: those of stock clusters where a map has a straw2 bucket, by which alone the program
-        is told to read it so.
+        """The limits of its maps: those of stock clusters where a map has a straw2 bucket or sets how leaves are
+        sought, by which alone the program is told to read it so.
         """
-        return limits_of(any(self.buckets[number]["alg"] == "straw2" for number in self.kept))
+        has_straw2 = any(self.buckets[number]["alg"] == "straw2" for number in self.kept)
+        return limits_of(has_straw2 or any(map(self.sets_leaves, self.rules)))
 
     def most_items(self, bucket: DumpBucket) -> int:
         """How many items a bucket has at most in a map."""

@@ -4,8 +4,8 @@ from __future__ import annotations
 
 from ..faults import Fault, Refused
 from ..program.defects import map_defects
-from ..program.map_forms import TRIES
-from ..program.maps import Bucket, Map, Osd, Pool, Program, Rule, has_straw2
+from ..program.map_forms import SETTING
+from ..program.maps import Bucket, Map, Osd, Pool, Program, Rule, needs_stock
 from ..program.monitor import Monitor
 from .cluster import Cluster, KINDS_BY_TYPE
 from .dump_types import DumpOsd, DumpPool
@@ -45,7 +45,7 @@ def map_of(cluster: Cluster) -> Map:
         {"id": rule["rule_id"], "kind": KINDS_BY_TYPE[rule["type"]], "steps": cluster.steps_of(rule)}
         for rule in cluster.rules
     ]
-    tries = any(step[0] in TRIES for rule in rules for step in rule["steps"])
+    is_second = any(step[0] in SETTING for rule in rules for step in rule["steps"])
     explicit, items = cluster.exceptions
     gone: list[Osd] = [
         {"exists": False, "id": osd, "up": False, "weight": min(weight, 65536)}
@@ -61,7 +61,7 @@ def map_of(cluster: Cluster) -> Map:
         "pg_upmap_items": items,
         "pools": [pool_of(pool) for pool in cluster.pools],
         "rules": rules,
-        "version": 2 if tries else 1,
+        "version": 2 if is_second else 1,
     }
 
 
@@ -73,5 +73,5 @@ def monitor_of(value: Map, program: Program, stock: bool | None = None, store: s
         return Monitor(value, program, stock=stock, store=store)
     except Refused as refused:
         raise Fault(
-            f"the program refuses the map: {refused.name}", *map(str, map_defects(value, has_straw2(value)))
+            f"the program refuses the map: {refused.name}", *map(str, map_defects(value, needs_stock(value)))
         ) from None

@@ -5,6 +5,7 @@ from __future__ import annotations
 from collections.abc import Iterable, Mapping
 from dataclasses import dataclass, replace
 
+from ..faults import Fault
 from ..program.maps import Pool
 from ..values import SLOTS
 from .disks import Disks, disks_in
@@ -34,17 +35,24 @@ class KnownData:
     groups: GroupSizes | None
     disks: Disks | None
 
-    def of_cluster(self, pools: list[Pool], names: Mapping[str, str], is_whole: bool) -> Data | None:
+    def of_cluster(
+        self, pools: list[Pool], names: Mapping[str, str], is_whole: bool, rates: Mapping[int, float]
+    ) -> Data | None:
         """What the pools of a cluster hold; None where nobody tells. A fault where a file is of another cluster, or
-        lacks something of this one; `is_whole` says whether these are all pools of the cluster.
+        lacks something of this one; `is_whole` says whether these are all pools of the cluster, and `rates` how many
+        bytes erasure pools take for one that is stored, where the dumps tell that.
         """
         found = self.pools
         if found is not None:
             found.check(pools, names, is_whole)
+        if found is not None and found.why_not_raw is not None and self.groups is None:
+            raise Fault(f"{found.path}: {found.why_not_raw}: give --pgs too, which tells what each group holds")
         if self.groups is not None:
             self.groups.check(pools, is_whole)
             if found is None:
-                found = Data(self.groups.path, self.groups.data(pools), {}, {}, 0, 0, {}, {})
+                found = Data(self.groups.path, self.groups.data(pools, {}), {}, {}, 0, 0, {}, {})
+            elif found.why_not_raw is not None:
+                found = replace(found, of_pool=self.groups.data(pools, rates), rates=rates)
             found = replace(found, parts=self.groups.parts(pools))
         return found
 

@@ -10,6 +10,7 @@ from ..faults import Fault
 from ..files import json_of
 from ..values import SLOTS
 from .dump_forms import OSD_DF, misfits
+from .reports import check_no_report
 from .shares import Shares
 
 KIB = 1024
@@ -64,6 +65,7 @@ def disks_in(path: str) -> Disks:
     """What a file with the output of `ceph osd df -f json` tells, also of its form as a tree. A fault for each place
     that has another form, and for an OSD that stands there twice.
     """
+    check_no_report(path, "of disks one by one: give what `ceph osd df -f json` prints")
     value = json_of(path, "nodes")
     nodes = value["nodes"]
     stray = value.get("stray", [])

@@ -7,9 +7,11 @@ What has keys that are not fixed, or lists of several kinds as JSON has them, st
 from __future__ import annotations
 
 import math
+import re
 from typing import Any, Dict, NamedTuple, cast
 
 from ..files import JsonObject
+from ..program.map_forms import GROUP_PATTERN, STOCK
 
 # The form of a dump: what stands at each key.
 DumpForm = Dict[str, Any]
@@ -22,9 +24,38 @@ class Part(NamedTuple):
 
     most: int
 
+    def fault(self, value: object) -> str:
+        """What is wrong with a value, or nothing."""
+        is_part = is_kind(value, float) and 0 <= cast(float, value) <= self.most
+        return "" if is_part else f"no number from 0 to {self.most}"
 
+
+class Count(NamedTuple):
+    """The form of a whole number from one to another."""
+
+    least: int
+    most: int
+
+    def fault(self, value: object) -> str:
+        """What is wrong with a value, or nothing."""
+        is_count = is_kind(value, int) and self.least <= cast(int, value) <= self.most
+        return "" if is_count else f"no whole number from {self.least} to {self.most:,}"
+
+
+class Written(NamedTuple):
+    """The form of a text, and what is told of another one."""
+
+    pattern: re.Pattern[str]
+    told: str
+
+    def fault(self, value: object) -> str:
+        """What is wrong with a value, or nothing."""
+        return "" if isinstance(value, str) and self.pattern.fullmatch(value) else self.told
+
+
+GROUP = Written(GROUP_PATTERN, "no group; one is written as 1.1f")
 # A key that may be missing begins with a question mark; a list of one shape stands for any number of such entries.
-GROUP_KEYS = {"pgid": str}
+GROUP_KEYS = {"pgid": GROUP}
 OSD_DUMP = {
     "epoch": int,
     "max_osd": int,
@@ -40,14 +71,19 @@ OSD_DUMP = {
             "?flags": int,
             "?object_hash": int,
             "?min_size": int,
-            "?pg_num_pending": int,
+            "?erasure_code_profile": str,
+            "?pg_num_pending": Count(1, STOCK.groups),
+            "?pg_num_target": Count(1, STOCK.groups),
+            "?pg_placement_num_target": Count(1, STOCK.groups),
         }
     ],
     "osds": [{"osd": int, "up": int, "weight": float, "?state": [str], "?primary_affinity": Part(1)}],
     "?fsid": str,
+    "?crush_version": int,
     "?pg_upmap": [dict(GROUP_KEYS, osds=[int])],
     "?pg_upmap_items": [dict(GROUP_KEYS, mappings=[{"from": int, "to": int}])],
     "?nearfull_ratio": float,
+    "?erasure_code_profiles": {},
     "?osd_xinfo": [object],
     "?pg_temp": [object],
     "?primary_temp": [object],
@@ -85,11 +121,11 @@ TREE = {"nodes": [{"id": int, "?exists": int, "?reweight": float}]}
 # What `ceph df --format json` tells of all OSDs, and of the data of pools: bytes on all OSDs, and those that are
 # stored.
 DF = {
-    "?stats": {"?total_bytes": int},
+    "?stats": {"?total_bytes": int, "?num_osds": int, "?num_per_pool_osds": int},
     "pools": [{"id": int, "?name": str, "stats": {"bytes_used": int, "stored": int}}],
 }
 # What `ceph pg dump -f json` tells of each group: the bytes of its objects, and those of their keys.
-PG_STATS = [{"pgid": str, "stat_sum": {"num_bytes": int, "?num_omap_bytes": int}}]
+PG_STATS = [{"pgid": GROUP, "stat_sum": {"num_bytes": int, "?num_omap_bytes": int}}]
 # What `ceph osd df -f json` tells of OSDs; with `tree` also buckets stand there, with negative ids.
 OSD_DF = {"nodes": [{"id": int, "kb": int, "kb_used": int, "kb_avail": int}]}
 # What is said of the report of a cluster in place of a dump.
@@ -103,6 +139,8 @@ STEP_KEYS = {
     "chooseleaf_indep": ("num", "type"),
     "set_choose_tries": ("num",),
     "set_chooseleaf_tries": ("num",),
+    "set_chooseleaf_vary_r": ("num",),
+    "set_chooseleaf_stable": ("num",),
 }
 # The steps of a rule that a monitor dumps by their numbers alone (Ceph, crush.h `crush_opcodes`).
 OPCODES = {
@@ -177,9 +215,9 @@ def misfits(value: object, shape: object, place: str) -> list[str]:
         if "op" in shape and not found:
             found += [f"{place}.{name}: missing" for name in STEP_KEYS.get(value["op"], ()) if name not in value]
         return found
-    if isinstance(shape, Part):
-        is_part = is_kind(value, float) and 0 <= cast(float, value) <= shape.most
-        return [] if is_part else [f"{place}: no number from 0 to {shape.most}"]
+    if isinstance(shape, (Part, Count, Written)):
+        told = shape.fault(value)
+        return [f"{place}: {told}"] if told else []
     kind = cast(type, shape)
     return [] if is_kind(value, kind) else [f"{place}: {kind_fault(value, kind)}"]
 
@@ -211,10 +249,11 @@ def fitting_parts(value: object, shape: object) -> object:
 
 
 def with_words(step: object) -> object:
-    """A step of a rule by its word, where a monitor dumps it by its number."""
+    """A step of a rule by its word and its number, where a monitor dumps it by the number of its word."""
     if not isinstance(step, dict) or "op" in step or not is_kind(step.get("opcode"), int):
         return step
-    return dict(step, op=OPCODES.get(step["opcode"], f"of number {step['opcode']}"))
+    word = OPCODES.get(step["opcode"], f"of number {step['opcode']}")
+    return dict(step, op=word, **({"num": step["arg1"]} if word in STEP_KEYS and "arg1" in step else {}))
 
 
 def with_steps_by_word(crush_dump: JsonObject) -> JsonObject:

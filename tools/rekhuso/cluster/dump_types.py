@@ -74,7 +74,10 @@ class Flagged(TypedDict, total=False):
     flags: int
     object_hash: int
     min_size: int
+    erasure_code_profile: str
     pg_num_pending: int
+    pg_num_target: int
+    pg_placement_num_target: int
 
 
 class DumpPool(Flagged):
@@ -105,10 +108,14 @@ class DumpOsd(Stated):
 
 
 class OfCluster(TypedDict, total=False):
-    """What an OSD dump may have: of which cluster it is, and up to which part OSDs may be filled."""
+    """What an OSD dump may have: of which cluster it is, how often its CRUSH map has changed, and up to which part OSDs
+    may be filled.
+    """
 
     fsid: str
+    crush_version: int
     nearfull_ratio: float
+    erasure_code_profiles: dict[str, Any]
 
 
 class OsdDump(OfCluster):

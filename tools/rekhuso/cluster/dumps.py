@@ -6,7 +6,7 @@ import re
 from dataclasses import dataclass
 from typing import cast
 
-from ..faults import Fault
+from ..faults import Fault, Trouble
 from ..files import JsonObject, json_of
 from ..progress import doing
 from ..terminal import in_one_line
@@ -16,19 +16,18 @@ from .dump_forms import (
     CRUSH_DUMP,
     DumpForm,
     OSD_DUMP,
-    REPORT,
     TREE,
     fitting,
     is_crush_dump,
     is_map,
     is_kind,
     is_osd_dump,
-    is_report,
     misfits,
     with_steps_by_word,
 )
 from .dump_types import CrushDump, OsdDump, Tree
 from .names import pools_named
+from .reports import CRUSH_PART, OSD_PART, check_no_report, dump_in_report, is_report_file
 from .sources import DumpFiles
 
 # Where a dump has names.
@@ -110,16 +109,34 @@ def gone_in(tree: Tree, osd_dump: OsdDump) -> dict[int, int]:
     }
 
 
-def objects_of(paths: list[str]) -> list[JsonObject]:
+@dataclass(frozen=True, **SLOTS)
+class DumpFile:
+    """The file of a dump, or a report in which it stands; its form; and the part of a report that it is."""
+
+    path: str
+    form: DumpForm
+    part: str
+
+    def value(self) -> JsonObject:
+        """The object of the dump. A fault where there is none."""
+        found = dump_in_report(self.path, self.part)
+        return json_of(self.path) if found is None else found
+
+    def place(self) -> str:
+        """Where the dump stands."""
+        return f"{self.path}: {self.part}" if is_report_file(self.path) else self.path
+
+
+def objects_of(files: list[DumpFile]) -> list[JsonObject]:
     """The object of each file; a fault that tells of each that is no JSON object."""
-    found, unread = [], []
-    for path in paths:
+    found, unread = [], list[str]()
+    for own in files:
         try:
-            found.append(json_of(path))
+            found.append(own.value())
         except Fault as fault:
-            unread += fault.lines
+            unread += [line for line in fault.lines if line not in unread]
     if unread:
-        raise Fault(*unread)
+        raise Trouble(*unread)
     return found
 
 
@@ -128,20 +145,19 @@ def both_dumps(osd_dump: str, crush_dump: str, tree: str | None = None) -> tuple
     that tells of each file that is no JSON object, of each that is a map, or that the two are swapped.
     """
     doing("reading dumps")
-    files: list[tuple[str, DumpForm]] = [(osd_dump, OSD_DUMP), (crush_dump, CRUSH_DUMP)]
-    files += [] if tree is None else [(tree, TREE)]
-    values = objects_of([path for path, _ in files])
-    maps = [path for (path, _), value in zip(files, values) if is_map(value)]
+    files = [DumpFile(osd_dump, OSD_DUMP, OSD_PART), DumpFile(crush_dump, CRUSH_DUMP, CRUSH_PART)]
+    if tree is not None:
+        check_no_report(tree, "the reweights of OSDs that were removed: give what `ceph osd tree -f json` prints")
+    files += [] if tree is None else [DumpFile(tree, TREE, "")]
+    values = objects_of(files)
+    maps = [own.path for own, value in zip(files, values) if is_map(value)]
     if maps:
-        raise Fault(*(f"{path}: this is a map, and no dump: give both dumps, or one map alone" for path in maps))
-    reports = dict.fromkeys(path for (path, _), value in zip(files, values) if is_report(value))
-    if reports:
-        raise Fault(*(f"{path}: this is {REPORT}: give these two" for path in reports))
+        raise Trouble(*(f"{path}: this is a map, and no dump: give both dumps, or one map alone" for path in maps))
     if is_crush_dump(values[0]) and is_osd_dump(values[1]):
-        raise Fault(
+        raise Trouble(
             f"the dumps are swapped: {osd_dump} is the CRUSH dump, and {crush_dump} the OSD dump, which comes first"
         )
-    found = [read_dump(path, value, form) for (path, form), value in zip(files, values)]
+    found = [read_dump(own.place(), value, own.form) for own, value in zip(files, values)]
     osds, crush = cast(OsdDump, found[0][0]), cast(CrushDump, found[1][0])
     gone = {} if tree is None else gone_in(cast(Tree, found[2][0]), osds)
     return Cluster(osds, crush, found[0][1] | found[1][1], gone), [fault for _, _, faults in found for fault in faults]

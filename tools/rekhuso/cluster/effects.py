@@ -114,22 +114,23 @@ def with_osd(cluster: Cluster, host: Host, weight: int) -> Cluster:
 # States, reweights, pools and exceptions
 
 
+def counts_at_rest(groups: int, placed: int) -> dict[str, int]:
+    """What a pool has that has so many groups, placed by such a number, and is to keep them."""
+    return {
+        "pg_num": groups,
+        "pg_num_pending": groups,
+        "pg_num_target": groups,
+        "pg_placement_num": placed,
+        "pg_placement_num_target": placed,
+    }
+
+
 def pools_after(dump: OsdDump, change: Change) -> list[DumpPool]:
     """The pools after a change."""
     grown = {number: (groups, placed) for number, groups, placed in change.get("grow_pool", [])}
     pools = [pool for pool in dump["pools"] if pool["pool"] not in change.get("old_pools", [])]
     pools += [dump_pool(pool, f"pool {pool['id']}") for pool in change.get("new_pools", [])]
-    return [
-        altered(
-            pool,
-            pg_num=grown[pool["pool"]][0],
-            pg_placement_num=grown[pool["pool"]][1],
-            pg_num_pending=grown[pool["pool"]][0],
-        )
-        if pool["pool"] in grown
-        else pool
-        for pool in pools
-    ]
+    return [altered(pool, **counts_at_rest(*grown[pool["pool"]])) if pool["pool"] in grown else pool for pool in pools]
 
 
 def osds_after(dump: OsdDump, change: Change) -> list[DumpOsd]:

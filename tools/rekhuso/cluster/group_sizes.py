@@ -2,15 +2,14 @@
 
 from __future__ import annotations
 
-from collections.abc import Iterable
+from collections.abc import Iterable, Mapping
 from dataclasses import dataclass
 
 from ..faults import Fault
-from ..files import json_of
-from ..program.map_forms import GROUP_PATTERN
 from ..program.maps import Pool, group_key, groups_in
 from ..values import SLOTS
 from .dump_forms import PG_STATS, misfits
+from .group_dumps import pg_dump_in
 
 
 @dataclass(frozen=True, **SLOTS)
@@ -42,14 +41,16 @@ class GroupSizes:
         """What the groups of some pools hold."""
         return {pool["id"]: [self.of_group[group] for group in groups_in(pool)] for pool in pools}
 
-    def data(self, pools: Iterable[Pool]) -> dict[int, int]:
-        """The bytes that pools take, by what their groups hold: each copy as many. A fault for each erasure pool, of
-        which no group tells how many parts hold its data.
+    def data(self, pools: Iterable[Pool], rates: Mapping[int, float]) -> dict[int, int]:
+        """The bytes that pools take, by what their groups hold: each copy as many, and of an erasure pool by its rate.
+        A fault for each erasure pool whose rate is not known, as no group tells how many parts hold its data.
         """
         found, faults = {}, []
         for pool in pools:
-            found[pool["id"]] = sum(self.of_group[group] for group in groups_in(pool)) * pool["size"]
-            if pool["kind"] != "replicated" and found[pool["id"]]:
+            is_copied = pool["kind"] == "replicated"
+            rate = pool["size"] if is_copied else rates.get(pool["id"])
+            found[pool["id"]] = round(sum(self.of_group[group] for group in groups_in(pool)) * (rate or pool["size"]))
+            if rate is None and found[pool["id"]]:
                 faults.append(f"pool {pool['id']} is an erasure pool: what it takes on OSDs --df tells")
         if faults:
             raise Fault(*(f"{self.path}: {fault}" for fault in faults))
@@ -66,7 +67,7 @@ def group_sizes_in(path: str) -> GroupSizes:
     """What a file with the output of `ceph pg dump -f json` tells. A fault for each place that has another form, for a
     group that stands there twice, and for one that is none.
     """
-    value = json_of(path)
+    value = pg_dump_in(path)
     inside = value.get("pg_map", value)
     stats = inside.get("pg_stats") if isinstance(inside, dict) else None
     if stats is None:
@@ -77,8 +78,6 @@ def group_sizes_in(path: str) -> GroupSizes:
     found: dict[str, int] = {}
     for own in stats:
         group, held = own["pgid"], own["stat_sum"]
-        if not GROUP_PATTERN.fullmatch(group):
-            raise Fault(f"{path}: {group}: no group")
         if group in found:
             raise Fault(f"{path}: {group} stands there twice")
         found[group] = max(held["num_bytes"], 0) + max(held.get("num_omap_bytes", 0), 0)

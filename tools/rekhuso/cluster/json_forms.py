@@ -16,6 +16,7 @@ class ItemParts(TypedDict):
     weight: float
     groups: int
     share: float
+    reach: float
 
 
 class RowParts(ItemParts, total=False):
@@ -33,6 +34,16 @@ class TotalParts(TypedDict):
     weight: float
     groups: int
     share: float
+    reach: float
+
+
+class FullParts(TypedDict):
+    """A bucket that holds so many places of each group of a pool, as many as it can, and weighs for another number."""
+
+    id: int
+    type: int
+    places: int
+    wanted: float
 
 
 class PoolRowParts(TypedDict):
@@ -44,6 +55,33 @@ class PoolRowParts(TypedDict):
     rule: int
     places: int
     short: int
+    full: list[FullParts]
+
+
+class UnrestParts(TypedDict):
+    """What becomes of a pool that is not at rest: how many groups it has, will have next and is to have in the end, by
+    how many they are placed, now and in the end, and all of it in words.
+    """
+
+    id: int
+    name: str
+    pg_num: int
+    pg_num_pending: int
+    pg_num_target: int
+    pgp_num: int
+    pgp_num_target: int
+    why: str
+
+
+class VerifiedParts(TypedDict):
+    """How many groups there are, how many lie where the cluster says, how many elsewhere, and of how many the cluster
+    does not tell it yet.
+    """
+
+    groups: int
+    same: int
+    differ: int
+    untold: int
 
 
 class SpreadParts(TypedDict):

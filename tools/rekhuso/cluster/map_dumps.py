@@ -6,7 +6,7 @@ from ..program.maps import Map, Pool, Rule, altered, entries_of
 from .cluster import Cluster, HASHPSPOOL, KINDS_BY_TYPE
 from .dump_types import CrushDump, DumpPool, DumpRule, DumpStep, OsdDump
 from .names import Names, named
-from .reasons.rules import TUNABLES
+from .tunables import TUNABLES
 
 TYPES_BY_KIND = {name: number for number, name in KINDS_BY_TYPE.items()}
 

@@ -4,7 +4,7 @@ from __future__ import annotations
 
 import json
 
-from ..faults import Fault, Refused
+from ..faults import Refused, Trouble
 from ..files import text_of
 from ..program.answers import Up
 from ..program.maps import Map, Program, groups_of
@@ -33,7 +33,7 @@ def map_monitor(
         dump = dump_in(text)
         if dump is None:
             raise
-        raise Fault(
+        raise Trouble(
             f"{path}: this is {dump}, and no map: most commands take both dumps, and import makes a map of them"
         ) from None
 

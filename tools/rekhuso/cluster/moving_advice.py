@@ -10,14 +10,13 @@ from typing import Any
 from ..faults import Fault
 from ..program.answers import Up
 from ..program.maps import Program, altered, groups_of
-from ..words import counted, listed, share_words
+from ..words import counted, share_words
 from .aftermath import cleaned_at, with_exceptions
 from .cluster import Cluster, KINDS_BY_TYPE
 from .conversion import map_of, monitor_of
 from .difference import moved_parts
 from .map_parts import map_clusters
 from .reasons import reasons
-from .reasons.rules import TUNABLES
 
 # The key of a compat weight set.
 COMPAT = "-1"
@@ -80,23 +79,6 @@ def pool_sets_words(cluster: Cluster, program: Program) -> str:
     return f", which moves data: {places_words(moved, places)} of these pools"
 
 
-def tunable_words(cluster: Cluster) -> str:
-    """What another tunable moves, the one that was tried, by the words of the rules: no map holds the one before."""
-    own = cluster.crush["tunables"]
-    if [name for name, wanted in TUNABLES.items() if own.get(name, wanted) != wanted] != ["chooseleaf_stable"]:
-        return ""
-    rules = {
-        rule["rule_id"] for rule in cluster.rules if any(step["op"] == "chooseleaf_firstn" for step in rule["steps"])
-    }
-    pools = [str(pool["pool"]) for pool in cluster.pools if pool["crush_rule"] in rules]
-    if not pools:
-        return ": no pool's rule has a chooseleaf firstn, which alone looks at it"
-    whose = "pool" if len(pools) == 1 else "pools"
-    return f": some half of the places of {whose} {listed(pools)}, by chooseleaf firstn"
-
-
 def import_moves(cluster: Cluster, reason: str, program: Program) -> str:
     """What the advice about a reason moves, behind it; nothing where it is not known, or moves nothing."""
-    if re.search(r"^choose_args.*: of pools", reason):
-        return pool_sets_words(cluster, program)
-    return tunable_words(cluster) if reason.startswith("tunable ") else ""
+    return pool_sets_words(cluster, program) if re.search(r"^choose_args.*: of pools", reason) else ""

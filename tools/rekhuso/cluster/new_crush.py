@@ -4,7 +4,7 @@ from __future__ import annotations
 
 from dataclasses import dataclass
 
-from ..faults import Fault
+from ..faults import Fault, Trouble
 from ..files import json_of
 from ..program.maps import altered
 from ..values import SLOTS
@@ -12,6 +12,7 @@ from .cluster import Cluster
 from .dump_forms import CRUSH_DUMP, is_crush_dump
 from .dump_types import CrushDump, DumpPool
 from .dumps import first_lines, read_dump
+from .effects import counts_at_rest
 
 
 @dataclass(frozen=True, **SLOTS)
@@ -38,7 +39,7 @@ def crush_in(path: str) -> CrushDump:
     """The CRUSH map in a file, as `crushtool -i FILE --dump` prints it. A fault for each place of another form."""
     value = json_of(path)
     if not is_crush_dump(value):
-        raise Fault(f"{path}: no CRUSH map as crushtool --dump prints it")
+        raise Trouble(f"{path}: no CRUSH map as crushtool --dump prints it")
     found, _, faults = read_dump(path, value, CRUSH_DUMP)
     if faults:
         raise Fault(*first_lines(faults))
@@ -73,7 +74,7 @@ def pool_after(cluster: Cluster, pool: DumpPool, change: PoolChange) -> DumpPool
     if placed > count:
         raise Fault(f"{name}: pgp_num={placed} is more than its {count} groups")
     if (count, placed) != (pool["pg_num"], pool["pg_placement_num"]):
-        parts.update(pg_num=count, pg_placement_num=placed, pg_num_pending=count)
+        parts.update(counts_at_rest(count, placed))
     return altered(pool, **parts)
 
 

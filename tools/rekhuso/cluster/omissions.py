@@ -5,6 +5,7 @@ from __future__ import annotations
 from ..program.maps import entries_of
 from ..words import some
 from .cluster import Cluster
+from .unrest import unrest_lines
 
 
 def omissions_of(cluster: Cluster, has_names: bool) -> list[str]:
@@ -40,6 +41,9 @@ def omissions_of(cluster: Cluster, has_names: bool) -> list[str]:
         + len(entries_of(cluster.osd_dump, "pg_upmap_items"))
         - len(items)
     )
+    found += [
+        f"what becomes of pools, of which a plan of the map knows nothing: {line}" for line in unrest_lines(cluster)
+    ]
     return found + ([f"{idle} exceptions that cannot act"] if idle else []) + weightless(cluster)
 
 

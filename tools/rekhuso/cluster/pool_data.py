@@ -13,6 +13,8 @@ from ..terminal import in_one_line
 from ..values import SLOTS
 from .disks import Disk
 from .dump_forms import DF, misfits
+from .report_data import df_of_report
+from .reports import report_in
 
 # The bytes of a weight of 1 in the CRUSH map, where `ceph df` does not tell those of all OSDs.
 UNIT = 2**40
@@ -33,7 +35,8 @@ class Data:
     """Where it was read; the bytes that each pool takes on all OSDs, the name of each, how many bytes are taken for one
     that is stored, where that is told, and the bytes of all OSDs, 0 where these are not told. Beside it what all OSDs
     weigh in the CRUSH map, 0 where that is not known; of pools whose groups are known what these hold, one beside the
-    other; and the disks of the OSDs, where they are known.
+    other; the disks of the OSDs, where they are known; and why these bytes are not those on all OSDs, where they are
+    not.
     """
 
     path: str
@@ -44,6 +47,7 @@ class Data:
     weight: int
     parts: Mapping[int, list[int]]
     disks: Mapping[int, Disk]
+    why_not_raw: str | None = None
 
     def parts_of(self, pool: Pool) -> list[int]:
         """What each group of a pool holds, one beside the other."""
@@ -97,13 +101,27 @@ class Data:
             raise Fault(*(f"{self.path}: {fault}" for fault in faults))
 
 
+def why_not_raw(stats: Mapping[str, int]) -> str | None:
+    """Why the bytes that pools use are not those on all OSDs; None where they are, as far as is told. Of OSDs that have
+    no statistics by pool Ceph sums what clients have stored, once (PGMap.h `use_per_pool_stats`).
+    """
+    count, own = stats.get("num_osds", 0), stats.get("num_per_pool_osds")
+    if own is None or own >= count:
+        return None
+    return (
+        f"{own} of {count} OSDs have statistics by pool (num_per_pool_osds), so bytes_used is what is stored, and not "
+        "what lies on the disks"
+    )
+
+
 def data_in(path: str | None) -> Data | None:
     """What a file with the output of `ceph df --format json` tells; None where there is no path. A fault for each
     place that has another form, and for a pool that stands there twice.
     """
     if path is None:
         return None
-    value = json_of(path, "pools")
+    report = report_in(path)
+    value = json_of(path, "pools") if report is None else df_of_report(path, report)
     faults = misfits(value, DF, "")
     if faults:
         raise Fault(*(f"{path}: {fault}" for fault in faults))
@@ -115,4 +133,5 @@ def data_in(path: str | None) -> Data | None:
     used = {number: max(own["bytes_used"], 0) for number, own in stats.items()}
     rates = {number: used[number] / own["stored"] for number, own in stats.items() if own["stored"] > 0}
     names = {number: in_one_line(own["name"]) for number, own in pools.items() if "name" in own}
-    return Data(path, used, names, rates, max(value.get("stats", {}).get("total_bytes", 0), 0), 0, {}, {})
+    total = value.get("stats", {})
+    return Data(path, used, names, rates, max(total.get("total_bytes", 0), 0), 0, {}, {}, why_not_raw(total))

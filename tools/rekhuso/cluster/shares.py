@@ -1,4 +1,4 @@
-"""How many places of up sets each OSD has, and how many its weight calls for."""
+"""How many places of up sets each OSD has, how many its weight calls for, and how many the rules can give it."""
 
 from __future__ import annotations
 
@@ -7,11 +7,13 @@ from itertools import chain
 
 from ..program.answers import Up
 from ..program.maps import Map, Pool, groups_in
-from .json_forms import PoolRowParts, RowParts, SpreadParts, TotalParts
+from .evenness import sums_by_osd
+from .json_forms import FullParts, PoolRowParts, RowParts, SpreadParts, TotalParts
+from .reach import Full, Reach, blocks_of
 
 
 class Shares:
-    """How many places of up sets each OSD has, beside the share that its weight calls for."""
+    """How many places of up sets each OSD has, beside the share that its weight calls for and what it can reach."""
 
     def __init__(self, value: Map, ups: dict[str, Up]) -> None:
         """Takes a lawful map and the up set of each of its groups."""
@@ -25,11 +27,11 @@ class Shares:
         self.buckets = {bucket["id"]: bucket for bucket in value["buckets"]}
         self.items = {item: weight for bucket in value["buckets"] for item, weight in bucket["items"]}
         self.trees: dict[int, list[dict[int, int]]] = {}
+        self.reaches: dict[tuple[int, int], tuple[list[dict[int, int]], list[Full]]] = {}
         self.shares_by = {pool["id"]: self.shares_in(pool) for pool in value["pools"]}
-        self.wanted: dict[int, float] = {}
-        for own in self.shares_by.values():
-            for osd, wanted in own.items():
-                self.wanted[osd] = self.wanted.get(osd, 0.0) + wanted
+        self.reach_by = {pool["id"]: self.reach_in(pool) for pool in value["pools"]}
+        self.wanted: dict[int, float] = dict(sums_by_osd(self.shares_by))
+        self.reached: dict[int, float] = dict(sums_by_osd(self.reach_by))
 
     def ups_in(self, pool: Pool) -> list[Up]:
         """The up sets of a pool's groups."""
@@ -58,6 +60,31 @@ class Shares:
             self.trees[pool["rule"]] = [tree for tree in kept if tree]
         return self.trees[pool["rule"]]
 
+    def reach_for(self, pool: Pool) -> tuple[list[dict[int, int]], list[Full]]:
+        """The trees with what the pool's rule can give their OSDs in place of the weights, if that is anything else;
+        and the buckets that are full then. By weight where a tree has several blocks.
+        """
+        key = pool["rule"], pool["size"]
+        if key not in self.reaches:
+            trees, full = list[dict[int, int]](), list[Full]()
+            steps = next(rule["steps"] for rule in self.value["rules"] if rule["id"] == pool["rule"])
+            blocks = [(set(self.below(root)), root, own) for root, own in blocks_of(steps)]
+            for weights in self.trees_for(pool):
+                own = [(root, block) for osds, root, block in blocks if not osds.isdisjoint(weights)]
+                reach = Reach(self.buckets, weights, pool["size"])
+                trees.append(reach.parts(*own[0]) if len(own) == 1 else weights)
+                full += reach.full
+            self.reaches[key] = trees, full
+        return self.reaches[key]
+
+    def reach_trees(self, pool: Pool) -> list[dict[int, int]]:
+        """What a pool's rule can give OSDs, tree by tree: parts of what all of a tree have."""
+        return self.reach_for(pool)[0]
+
+    def full_in(self, pool: Pool) -> list[Full]:
+        """The buckets that have as many places of each group of a pool as they can have, and weigh otherwise."""
+        return self.reach_for(pool)[1]
+
     def weight(self, osd: int) -> int:
         """What an OSD weighs: its weight times its reweight, nothing where it is not there, or down."""
         state = self.osds.get(osd)
@@ -65,11 +92,20 @@ class Shares:
 
     def shares_in(self, pool: Pool) -> dict[int, float]:
         """How many places of a pool the weights of the OSDs call for, tree by tree."""
+        return self.shared(pool, self.trees_for(pool))
+
+    def reach_in(self, pool: Pool) -> dict[int, float]:
+        """How many places of a pool its rule can give the OSDs; the shares by weight where it is these."""
+        trees = self.reach_trees(pool)
+        return self.shares_by[pool["id"]] if trees == self.trees_for(pool) else self.shared(pool, trees)
+
+    def shared(self, pool: Pool, trees: list[dict[int, int]]) -> dict[int, float]:
+        """The places of a pool, shared tree by tree as its OSDs weigh there."""
         found: dict[int, float] = {}
-        for weights in self.trees_for(pool):
+        for weights in trees:
             counts, total = self.counts_in[pool["id"]], sum(weights.values())
             places = sum(count for osd, count in counts.items() if osd in weights)
-            found.update({osd: places * weight / total for osd, weight in weights.items()})
+            found.update({osd: places * weight / total for osd, weight in weights.items()} if total else {})
         return found
 
     def roots(self) -> list[int]:
@@ -86,6 +122,7 @@ class Shares:
             "weight": sum(weight for item, weight in self.items.items() if item >= 0) / 65536,
             "groups": sum(self.counts.values()),
             "share": round(sum(self.wanted.values()), 2),
+            "reach": round(sum(self.reached.values()), 2),
         }
 
     def state(self, osd: int) -> str:
@@ -105,6 +142,7 @@ class Shares:
             "state": self.state(osd),
             "groups": groups,
             "share": round(wanted, 2),
+            "reach": round(self.reached.get(osd, 0.0), 2),
             "deviation": round(groups - wanted, 2) + 0.0,
         }
 
@@ -125,9 +163,17 @@ class Shares:
             "weight": sum(row["weight"] for row in own),
             "groups": sum(row["groups"] for row in own),
             "share": round(sum(self.wanted.get(row["id"], 0.0) for row in own), 2),
+            "reach": round(sum(self.reached.get(row["id"], 0.0) for row in own), 2),
         }
         return [(depth, total)] + [
             row for item, _ in self.buckets[number]["items"] for row in self.rows(item, depth + 1)
+        ]
+
+    def full_parts(self, pool: Pool) -> list[FullParts]:
+        """What is told of the buckets that are full, those first that are farthest from what they weigh for."""
+        full = sorted(self.full_in(pool), key=lambda own: (-abs(own.wanted - own.places), own.kind, -own.bucket))
+        return [
+            {"id": own.bucket, "type": own.kind, "places": own.places, "wanted": round(own.wanted, 4)} for own in full
         ]
 
     def pools(self) -> list[PoolRowParts]:
@@ -143,6 +189,7 @@ class Shares:
                     "rule": pool["rule"],
                     "places": sum(full),
                     "short": sum(count < pool["size"] for count in full),
+                    "full": self.full_parts(pool),
                 }
             )
         return found

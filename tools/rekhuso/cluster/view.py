@@ -5,6 +5,7 @@ one.
 from __future__ import annotations
 
 import json
+from collections.abc import Mapping
 
 from ..faults import Fault
 from ..files import json_of, text_of
@@ -21,8 +22,10 @@ from .map_parts import map_clusters
 from .moving_advice import compat_words
 from .names import Names, names_in
 from .primaries import NamedPrimaries, primaries_in
+from .reach import Full
 from .shares import Shares
 from .sources import Source
+from .unrest import unrest_of
 
 
 def no_plan_words(moves: str) -> str:
@@ -48,6 +51,7 @@ class ClusterView:
         self.tree, self.is_cluster = self.tree_of(found.cluster) if found else maps[0], found is not None
         self.weighed = [own_weights(part, value) for part, value in zip(found.parts, maps)] if found else maps
         self.affinities = affinities_of(found.cluster) if found else {}
+        self.unrest = unrest_of(found.cluster) if found else {}
 
     def tree_of(self, cluster: Cluster) -> Map:
         """The cluster as one value: the buckets that are no shadows of device classes, each item once and with its
@@ -92,24 +96,37 @@ class ClusterView:
 
     def shares(self, ups: dict[str, Up]) -> Shares:
         """The shares of the whole."""
-        return ClusterShares(self.tree, self.weighed, ups) if self.is_cluster else Shares(self.tree, ups)
+        if not self.is_cluster:
+            return Shares(self.tree, ups)
+        return ClusterShares(self.tree, self.weighed, self.maps, ups)
 
 
 class ClusterShares(Shares):
     """The shares of a cluster that may take several maps: each pool's by its own map, over one tree."""
 
-    def __init__(self, tree: Map, maps: list[Map], ups: dict[str, Up]) -> None:
-        """Takes the tree, the maps as shares are reckoned, and the up set of each group."""
-        self.of_pool: dict[int, Shares] = {}
-        for value in maps:
-            self.of_pool.update(
-                dict.fromkeys((pool["id"] for pool in value["pools"]), Shares(altered(value, pools=[]), {}))
-            )
+    def __init__(self, tree: Map, weighed: list[Map], maps: list[Map], ups: dict[str, Up]) -> None:
+        """Takes the tree, the maps as shares are reckoned, the maps by which groups are placed, and the up set of each
+        group.
+        """
+        self.of_pool, self.placed = shares_by_pool(weighed), shares_by_pool(maps)
         super().__init__(tree, ups)
 
     def trees_for(self, pool: Pool) -> list[dict[int, int]]:
         """The weights of the OSDs that may have groups of the pool, by the map that has it."""
         return self.of_pool[pool["id"]].trees_for(pool)
+
+    def reach_for(self, pool: Pool) -> tuple[list[dict[int, int]], list[Full]]:
+        """What the pool's rule can give OSDs, by the weights that place its groups: those of a weight set in force."""
+        return self.placed[pool["id"]].reach_for(pool)
+
+
+def shares_by_pool(maps: list[Map]) -> dict[int, Shares]:
+    """Of each pool the shares of the map that has it, without any group."""
+    found: dict[int, Shares] = {}
+    for value in maps:
+        own = Shares(altered(value, pools=[]), {})
+        found.update(dict.fromkeys((pool["id"] for pool in value["pools"]), own))
+    return found
 
 
 def own_weights(part: Cluster, value: Map) -> Map:
@@ -204,11 +221,22 @@ def view_with_sets(source: Source) -> tuple[ClusterView, dict[str, Up]]:
         source.check_map()
         value, sets = map_with_sets(source.paths[0], source.program)
         return under_tree(value, names_in(source.names), tree_in(source.names)), sets
-    view, sets = cluster_view(source), {}
+    view = cluster_view(source)
+    return view, sets_in(view, source.program)
+
+
+def sets_in(view: ClusterView, program: Program) -> dict[str, Up]:
+    """The up set of each group of a cluster, with the primaries that entries name and affinities choose."""
+    sets: dict[str, Up] = {}
     for value in view.maps:
-        with monitor_of(value, source.program) as monitor:
+        with monitor_of(value, program) as monitor:
             sets.update(monitor.ups(groups_of(value)))
-    return view, all_with_affinity(view.pools, view.primaries(source.program).applied(sets), view.affinities)
+    return as_in_ceph(view, sets, program)
+
+
+def as_in_ceph(view: ClusterView, sets: Mapping[str, Up], program: Program) -> dict[str, Up]:
+    """Up sets of a cluster as the program has them, with the primaries that entries name and affinities choose."""
+    return all_with_affinity(view.pools, view.primaries(program).applied(sets), view.affinities)
 
 
 def view_of_cluster(cluster: Cluster) -> ClusterView:

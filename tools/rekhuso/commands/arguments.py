@@ -8,6 +8,7 @@ import sys
 from collections.abc import Callable, Sequence
 from typing import IO, TYPE_CHECKING, Any, NoReturn, TypeVar
 
+from ..cluster.reports import with_both
 from ..cluster.sources import Source
 
 # What the command line says; each command takes of it the options of its own.
@@ -87,7 +88,20 @@ GROUPS = {
         "--keep",
         "--program",
     ),
-    "of what is put out": ("--json", "--ceph", "--picture", "--out", "--undo", "--batch", "--to"),
+    "of what is put out": (
+        "--json",
+        "--status",
+        "--prometheus",
+        "--ceph",
+        "--picture",
+        "--out",
+        "--undo",
+        "--batch",
+        "--osd-most",
+        "--host-most",
+        "--to",
+        "--no-guard",
+    ),
 }
 
 
@@ -102,19 +116,24 @@ def group_options(own: argparse.ArgumentParser) -> None:
                 group._group_actions.append(action)
 
 
-FILES = "MAP | OSD_DUMP CRUSH_DUMP"
+FILES = "MAP | OSD_DUMP CRUSH_DUMP | REPORT"
 ABOUT_FILES = (
     "a map, as `import` writes it (- is standard input); or the two dumps of a cluster, what `ceph osd dump -f json` "
-    "and `ceph osd "
-    "crush dump` print"
+    "and `ceph osd crush dump` print, or what `ceph report` prints, which has both; also packed by gzip"
+)
+DUMPS = "OSD_DUMP CRUSH_DUMP | REPORT"
+ABOUT_DUMPS = (
+    "what `ceph osd dump -f json` and `ceph osd crush dump` print; or what `ceph report` prints, which has both"
 )
 
 
 class Files(argparse.Action):
-    """One file or two; an error of use where there are more."""
+    """One file or two, a report being two; an error of use where there are more."""
 
     counts: tuple[int, ...] = (1, 2)
     words = "one map, or two dumps"
+    # Whether one may be standard input.
+    has_input = True
 
     def __call__(
         self,
@@ -124,9 +143,17 @@ class Files(argparse.Action):
         option: str | None = None,
     ) -> None:
         """Keeps the words, or ends the command with status 2."""
-        if values is not None and len(values) not in self.counts:
+        words = list(map(str, values or ()))
+        files = with_both(words) if self.has_input or "-" not in words else words
+        if len(files) not in self.counts:
             parser.error(f"{parser.prog.split(' ')[-1]} takes {self.words}")
-        setattr(namespace, self.dest, values)
+        setattr(namespace, self.dest, files)
+
+
+class Dumps(Files):
+    """The two dumps of a cluster, or a report; an error of use where there are others."""
+
+    counts, words = (2,), "the two dumps of a cluster, or a report"
 
 
 def usage(*words: str) -> str:
@@ -180,12 +207,20 @@ def add_json(own: argparse.ArgumentParser) -> None:
     own.add_argument("--json", action="store_true", help="tell all of it as one JSON object")
 
 
+def add_guard(own: argparse.ArgumentParser) -> None:
+    """The option for scripts without guards."""
+    about = "leave out the lines by which a script ends, with nothing done, where the cluster is not as in the dumps"
+    own.add_argument("--no-guard", action="store_true", help=about)
+
+
 def source_of(arguments: Arguments, paths: Sequence[str] | None = None) -> Source:
     """What a command works on; its files are those of the arguments where none are given."""
     files = tuple(arguments.files if paths is None else paths)
     return Source(files, arguments.names, arguments.program, arguments.tree, arguments.pools, arguments.unmatched)
 
 
-def set_work(own: argparse.ArgumentParser, options_of: Callable[[Arguments], Own], work: Callable[[Own], None]) -> None:
-    """What a command does, with the options that it takes of the command line."""
+def set_work(
+    own: argparse.ArgumentParser, options_of: Callable[[Arguments], Own], work: Callable[[Own], int | None]
+) -> None:
+    """What a command does, with the options that it takes of the command line; it may tell a status of its own."""
     own.set_defaults(work=lambda arguments: work(options_of(arguments)))

@@ -8,9 +8,10 @@ from __future__ import annotations
 
 from dataclasses import dataclass
 
-from ..faults import Fault, Unopened
+from ..faults import Trouble, Unopened
 from ..program.maps import Program
-from ..program.process import built, chosen, told_by
+from ..program.process import built, told_by
+from ..program.versions import program_of
 from ..progress import doing
 from ..values import SLOTS
 from .arguments import Arguments, Commands, set_work
@@ -36,14 +37,14 @@ def options_of(arguments: Arguments) -> BackupOptions:
 
 def work(options: BackupOptions) -> None:
     """Makes the copy, and tells its epoch."""
-    program = chosen(options.store_program or built("osdmapstore", options.program), "osdmapstore")
+    program = program_of(options.store_program or built("osdmapstore", options.program), "osdmapstore")
     doing("copying the store")
     done = told_by([str(program), f"--backup={options.to}", "--", options.store])
     if done.error.startswith(REASON):
         raise Unopened(options.store, done.error.strip().removeprefix(REASON))
     if done.status:
         reason = next(iter(done.error.splitlines()), f"the program ended with status {done.status}")
-        raise Fault(f"{program}: {reason}")
+        raise Trouble(f"{program}: {reason}")
     print(done.output, end="")
 
 

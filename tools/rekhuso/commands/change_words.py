@@ -7,6 +7,7 @@ from dataclasses import dataclass
 
 from ..cluster.aftermath import Command
 from ..cluster.cluster import Cluster
+from ..cluster.reports import with_both
 from ..cluster.view import ClusterView
 from ..faults import Fault, Misuse
 from ..files import text_of
@@ -21,6 +22,7 @@ CHANGE_OPTIONS = {
     "out": "--out",
     "in": "--in",
     "down": "--down",
+    "up": "--up",
     "reweight": "--reweight",
     "weight": "--weight",
     "add_host": "--add-host",
@@ -36,7 +38,7 @@ CHANGE_PARTS = frozenset(
 )
 # How they stand in the use of a command.
 USE = [
-    *(f"[--{word} OSD|BUCKET ..].." for word in ("out", "in", "down")),
+    *(f"[--{word} OSD|BUCKET ..].." for word in ("out", "in", "down", "up")),
     "[--reweight OSD|BUCKET W]..",
     "[--weight OSD|BUCKET=W]..",
     "[--add-host NAME WEIGHTS [--under BUCKET] [--class CLASS]]",
@@ -90,6 +92,7 @@ def files_and_change(words: list[str]) -> tuple[list[str], Change | None]:
     """The files that words name, and the change behind them if there is one: a last word that is a change, a third
     one, or a second one that is the file of a change. A fault, or an error of use, where it is none.
     """
+    words = with_both(words)
     last, count = words[-1], len(words)
     is_change = count > 1 and (is_change_text(last) or count == 3 or count == 2 and has_change(last))
     return (words[:-1], change_in(last)) if is_change else (words, None)
@@ -112,6 +115,7 @@ def add_change_words(own: argparse.ArgumentParser) -> None:
         ("out", "takes no groups"),
         ("in", "takes its share again, as before it went out"),
         ("down", "is down"),
+        ("up", "comes back, as a host does behind an outage"),
     ):
         own.add_argument(
             f"--{word}", metavar="OSD|BUCKET", action=WordAction, help=f"it {about}; several as 1 2 or 1,2"

@@ -14,12 +14,12 @@ from typing import Any
 
 from ..cluster.dump_forms import dump_name
 from ..cluster.names import Names, names_in, with_names
-from ..faults import Fault, Refused
+from ..faults import Fault, Refused, Trouble
 from ..files import text_of
 from ..output.json_output import put_json
 from ..program.defects import change_defects, map_defects
 from ..program.map_forms import Defect, REFUSALS
-from ..program.maps import Program, has_straw2
+from ..program.maps import Program, needs_stock
 from ..program.questions import answers_of, raw_answers
 from ..values import SLOTS
 from .arguments import Arguments, Commands, add_json, set_work
@@ -84,8 +84,8 @@ def check_map(path: str, program: Program, names: Names) -> str:
         value = json_or_none(text)
         dump = dump_name(value)
         if dump is not None:
-            raise Fault(f"{path}: this is {dump}: use import") from None
-        places = [] if refused.name == "BadJson" else map_defects(value, has_straw2(text))
+            raise Trouble(f"{path}: this is {dump}: use import") from None
+        places = [] if refused.name == "BadJson" else map_defects(value, needs_stock(text))
         raise Unlawful(path, REFUSAL_NUMBERS[refused.name], refused.name, value, places, names) from None
     return text
 
@@ -127,7 +127,7 @@ def checked(options: CheckOptions) -> tuple[str, str | None]:
     answer = raw_answers(options.program, text, [f"change {change}"])[0]
     if answer.startswith("err "):
         number, name = answer.split(" ")[1:3]
-        found = [] if number == "10" else change_defects(json.loads(text), json_or_none(change), has_straw2(text))
+        found = [] if number == "10" else change_defects(json.loads(text), json_or_none(change), needs_stock(text))
         raise Unlawful(options.of_change, int(number), name, None, found, names)
     return text, answer
 

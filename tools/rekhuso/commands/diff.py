@@ -20,7 +20,7 @@ from ..faults import Refused
 from ..output.flow_words import pair_lines
 from ..output.json_output import put_json
 from ..program.answers import Up
-from ..program.maps import Change, Map, groups_of, has_straw2, written
+from ..program.maps import Change, Map, groups_of, needs_stock, written
 from ..program.questions import raw_answers
 from ..values import SLOTS
 from ..words import counted
@@ -67,7 +67,7 @@ def side_of(source: Source) -> Side:
 
 def check_change(old: Map, new: Map, change: Change, source: Source) -> None:
     """`Refused` where the program does not take the change that was found."""
-    is_stock = has_straw2(old) or has_straw2(new)
+    is_stock = needs_stock(old) or needs_stock(new)
     answer = raw_answers(source.program, old, [f"change {written(change)}"], is_stock)[0]
     if not answer.startswith("ok "):
         raise Refused(answer.split(" ")[2], int(answer.split(" ")[1]))

@@ -9,6 +9,7 @@ from dataclasses import dataclass
 from ..cluster.affinity import applied_words, told_affinities, with_affinity
 from ..cluster.json_forms import NamedParts, PairParts
 from ..cluster.names import Names, named, set_words, step_words
+from ..cluster.parting import Stages
 from ..cluster.primaries import with_first
 from ..cluster.sources import Source
 from ..cluster.view import ClusterView, view_of
@@ -165,6 +166,11 @@ class GroupStory:
         return lines or [
             "nobody has changed the set: no OSD was passed over as out, there is no exception, and no OSD of it is down"
         ]
+
+    def stages(self, names: Names) -> Stages:
+        """Its sets at each stage, to be held against another."""
+        has_named = self.group in self.primaries.osds and self.group not in self.primaries.idle
+        return Stages(self.value, names, self.pool, self.sets, bool(self.affinities), has_named)
 
     def lines(self, names: Names) -> list[str]:
         """The whole story, a line a stage."""

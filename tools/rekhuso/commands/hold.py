@@ -14,22 +14,31 @@ given its command. With --undo the same words give the commands that bring the e
 from __future__ import annotations
 
 import sys
-from dataclasses import dataclass
+from dataclasses import astuple, dataclass, replace
 
-from ..cluster.cluster import Cluster
 from ..cluster.group_dumps import group_data_in
+from ..cluster.aftermath import Command
+from ..cluster.cluster import Cluster
 from ..cluster.imports import ImportedCluster, imported
 from ..cluster.sources import Source
-from ..cluster.view import ClusterView
-from ..faults import Misuse
-from ..output.hold_words import ROUND, hold_lines, hold_script
+from ..cluster.unrest import growth_words
+from ..cluster.view import ClusterView, sets_in
+from ..faults import Fault, Misuse
+from ..files import put
+from ..output.hold_heads import HoldChange, head_of
+from ..output.hold_words import ROUND, hold_lines, hold_script, idle_lines
 from ..output.json_output import put_json
+from ..output.origins import Origin, origin_of
 from ..output.plan_scripts import put_batches
+from ..output.prepare_words import BEFORE_WORD, prepare_lines, prepare_scripts
 from ..plans.hold import Hold, Sides, counts_in, hold_of, mapped_sets, sides_of_change
-from ..plans.hold_checks import check_sides, check_still, moving_words, torn_words
+from ..plans.hold_checks import check_counts, check_sides, check_still, check_torn, moving_words, told_words
+from ..plans.prepare import prepare_of
 from ..values import SLOTS
-from .arguments import Arguments, Commands, add_dump_options, add_json, set_work, source_of
+from .arguments import Arguments, Commands, add_dump_options, add_guard, add_json, set_work, source_of
 from .change_words import USE, ChangeWords, add_change_words, change_words, files_and_change
+from .filter_words import FILTERS, FilterWords, add_filter_words, filter_words
+from .part_words import PartWords, add_part_words, part_words
 from .plan import commands_a_file
 
 FORMS = "OSD_DUMP CRUSH_DUMP [CHANGE] | OLD_OSD_DUMP OLD_CRUSH_DUMP NEW_OSD_DUMP NEW_CRUSH_DUMP"
@@ -39,7 +48,8 @@ FORMS = "OSD_DUMP CRUSH_DUMP [CHANGE] | OLD_OSD_DUMP OLD_CRUSH_DUMP NEW_OSD_DUMP
 class HoldOptions:
     """The dumps before the change, and those behind it where they are given; the words of the change; the file that
     tells where the data is, if there is one; whether a cluster that moves is held too; and how it is put out: as the
-    way back, in files of so many commands in a folder, or as JSON.
+    way back, in files of so many commands in a folder, as JSON, or without guards; which groups are held; and whether
+    it is told what goes before the change, in which parts.
     """
 
     old: Source
@@ -51,11 +61,28 @@ class HoldOptions:
     batch: int | None
     to: str | None
     is_json: bool
+    is_guarded: bool
+    chosen: FilterWords
+    is_before: bool
+    parts: PartWords
 
     @property
     def is_made(self) -> bool:
         """Whether the change is made already."""
         return self.new is not None or self.at is not None
+
+    @property
+    def change(self) -> HoldChange:
+        """How the change is made."""
+        given = self.asked.given()
+        is_by_crush = self.new is not None or set(given) <= {"--crush", "--weight"}
+        return HoldChange(self.is_made, is_by_crush, given == ["--crush"])
+
+    def files(self) -> list[str | None]:
+        """All files that a hold goes by."""
+        crush = [word.values[0] for word in self.asked.words if word.kind == "crush"]
+        new = [] if self.new is None else list(self.new.paths)
+        return [*self.old.paths, *new, *crush, self.at, self.old.tree]
 
 
 def options_of(arguments: Arguments) -> HoldOptions:
@@ -63,10 +90,10 @@ def options_of(arguments: Arguments) -> HoldOptions:
     own = arguments
     files, change = files_and_change(own.words)
     asked = change_words(own, change)
-    if (own.batch is None) != (own.to is None):
+    if own.batch is not None and own.to is None:
         raise Misuse("--batch and --to go together: files of so many commands, and their folder")
-    if own.json and (own.batch is not None or own.undo):
-        raise Misuse("--json tells the commands and their undoing at once: --batch and --undo do not go with it")
+    if own.json and (own.batch is not None or own.to is not None or own.undo):
+        raise Misuse("--json tells the commands and their undoing at once: --batch, --to and --undo do not go with it")
     if len(files) not in (2, 4):
         raise Misuse("hold takes the two dumps of today and a change, or those before and behind it")
     if len(files) == 4 or own.at is not None:
@@ -76,7 +103,22 @@ def options_of(arguments: Arguments) -> HoldOptions:
     elif not asked.given():
         raise Misuse("nothing is changed: give CHANGE, an option as --crush, the dumps behind it, or --at")
     old, new = source_of(own, files[:2]), source_of(own, files[2:]) if len(files) == 4 else None
-    return HoldOptions(old, new, asked, own.at, own.anyway, own.undo, own.batch, own.to, own.json)
+    forms = own.anyway, own.undo, own.batch, own.to, own.json, not own.no_guard
+    parts = part_words(own, own.prepare and own.batch is not None, "--prepare and --batch")
+    found = HoldOptions(old, new, asked, own.at, *forms, filter_words(own), own.prepare, parts)
+    check_before(found)
+    return found
+
+
+def check_before(options: HoldOptions) -> None:
+    """An error of use where what goes before a change is asked for, and the change is made, or one would be passed
+    over.
+    """
+    chosen = [own for own in astuple(options.chosen) if own is not None]
+    if options.is_before and (options.is_made or options.is_json or chosen):
+        raise Misuse("--prepare goes before a change that is still to come, for all groups, and is put out as scripts")
+    if options.is_before and options.to is not None and options.batch is None:
+        raise Misuse("--prepare --to goes with --batch: files of so many commands, and their folder")
 
 
 def cluster_in(source: Source) -> ImportedCluster:
@@ -84,40 +126,50 @@ def cluster_in(source: Source) -> ImportedCluster:
     return imported(source.dumps())
 
 
-def sides_by_words(options: HoldOptions) -> Sides:
-    """Both sides of a change that is still to come."""
+def change_by_words(options: HoldOptions) -> tuple[Cluster, list[Command]]:
+    """A cluster, and the commands of a change that is still to come."""
     found, program = cluster_in(options.old), options.old.program
-    check_still(moving_words(found.cluster, program), options.is_anyway, "held")
+    check_still(moving_words(found.cluster, program) + growth_words(found.cluster), options.is_anyway, "held")
     view = ClusterView(found.maps, found.cluster.all_names(), found)
-    return sides_of_change(found.cluster, options.asked.commands(view, found.cluster, program), program)
+    steps = options.asked.commands(view, found.cluster, program)
+    check_counts(found.cluster, steps)
+    return found.cluster, steps
 
 
-def sides_at(options: HoldOptions, path: str) -> Sides:
-    """Both sides of a change by where the data is behind it."""
-    new: Cluster = cluster_in(options.old).cluster
-    data = group_data_in(path, new, options.old.pools is None)
-    check_still(torn_words(data.torn, path), options.is_anyway, "held")
-    return Sides(data.sets, data.counts, new, frozenset())
+def sides_at(options: HoldOptions, path: str) -> tuple[Sides, frozenset[str]]:
+    """Both sides of a change by where the data is behind it, and the groups that stay as they are."""
+    found, program = cluster_in(options.old), options.old.program
+    new, is_whole = found.cluster, options.old.pools is None
+    data = group_data_in(path, new, is_whole)
+    view = ClusterView(found.maps, new.all_names(), found)
+    unlike = told_words(view, sets_in(view, program), path, is_whole)
+    torn = check_torn(data.torn, len(data.sets), path, options.is_anyway)
+    check_still(growth_words(new) + unlike, options.is_anyway, "held")
+    return Sides(data.sets, data.counts, new, frozenset(), None), torn
 
 
-def sides_of(options: HoldOptions) -> Sides:
-    """What stands before and behind the change."""
+def sides_of(options: HoldOptions) -> tuple[Sides, frozenset[str]]:
+    """What stands before and behind the change, and the groups that stay as they are."""
     if options.at is not None:
         return sides_at(options, options.at)
     if options.new is None:
-        return sides_by_words(options)
+        return sides_of_change(*change_by_words(options), options.old.program), frozenset()
     old, new, program = cluster_in(options.old).cluster, cluster_in(options.new).cluster, options.old.program
     check_sides(old, new)
-    check_still(moving_words(old, program), options.is_anyway, "held")
-    return Sides(mapped_sets(old, program), counts_in(old), new, frozenset())
+    check_still(moving_words(old, program) + growth_words(new), options.is_anyway, "held")
+    return Sides(mapped_sets(old, program), counts_in(old), new, frozenset(), old), frozenset()
 
 
-def scripts_of(hold: Hold, options: HoldOptions) -> list[str]:
+def scripts_of(sides: Sides, hold: Hold, options: HoldOptions, origin: Origin) -> list[str]:
     """The commands, or those that take them back, as one script or in parts; none where there are no commands."""
     lines = hold.undo if options.is_undo else hold.commands
+    head = head_of(sides, hold, options.is_undo, options.change, origin)
     size = options.batch or max(len(lines), 1)
     parts = [lines[at : at + size] for at in range(0, len(lines), size)]
-    return [hold_script(hold, options.is_undo, options.is_made, at + 1, parts) for at in range(len(parts))]
+    if options.batch is None and options.to is not None:
+        # A file of no commands says that nothing is to be held, where an empty one says nothing.
+        parts = parts or [[]]
+    return [hold_script(hold, head, options.is_made, at + 1, parts) for at in range(len(parts))]
 
 
 def check_printed(hold: Hold, scripts: list[str], options: HoldOptions) -> None:
@@ -131,14 +183,40 @@ def check_printed(hold: Hold, scripts: list[str], options: HoldOptions) -> None:
         printed.check_scripts(scripts, [], [], ROUND)
 
 
+def work_before(options: HoldOptions) -> None:
+    """Tells what goes before the change, so that a hold then covers it."""
+    cluster, steps = change_by_words(options)
+    found = prepare_of(cluster, steps, options.parts.size(cluster), options.old.program)
+    origin = origin_of(options.old.program, options.files(), cluster, options.is_guarded)
+    scripts = prepare_scripts(found, cluster.all_names(), options.is_undo, origin)
+    commands = ["\n".join(line for step in part for line in step.commands) for part in found.parts]
+    found.printed.check_scripts(
+        *((commands, found.lengths, scripts) if options.is_undo else (scripts, found.lengths, []))
+    )
+    print("\n".join(prepare_lines(found)), file=sys.stderr)
+    if options.to is None:
+        print("".join(scripts), end="")
+    else:
+        put_batches(options.to, "undo" if options.is_undo else BEFORE_WORD, scripts)
+
+
 def work(options: HoldOptions) -> None:
     """Tells the exceptions that hold groups, and which are not held."""
-    hold = hold_of(sides_of(options), options.old.program)
-    scripts = scripts_of(hold, options)
+    if options.is_before:
+        work_before(options)
+        return
+    sides, torn = sides_of(options)
+    hold = hold_of(sides, options.old.program, replace(options.chosen.chosen(sides.new), passed=torn))
+    if hold.is_idle and not options.is_undo:
+        raise Fault(*idle_lines(hold))
+    origin = origin_of(options.old.program, options.files(), sides.new, options.is_guarded)
+    scripts = scripts_of(sides, hold, options, origin)
     check_printed(hold, scripts, options)
     print("\n".join(hold_lines(hold)), file=sys.stderr)
     if options.is_json:
-        put_json("hold", hold.epoch, **hold.told(), commands=hold.commands, undo=hold.undo)
+        put_json("hold", hold.epoch, **hold.told(), commands=hold.commands, undo=hold.undo, **origin.parts())
+    elif options.batch is None and options.to is not None:
+        put(options.to, "".join(scripts))
     elif options.to is not None:
         put_batches(options.to, "undo" if options.is_undo else "hold", scripts)
     else:
@@ -147,9 +225,13 @@ def work(options: HoldOptions) -> None:
 
 def add_to(commands_of: Commands) -> None:
     """The subcommand."""
-    own = commands_of.add_parser("hold", help="exceptions that hold groups behind a change", description=__doc__)
-    more = " ".join(["[--anyway]", "[--undo]", "[--batch N --to FOLDER]", "[--json]"])
-    dumps = "[--pools ID|NAME,..] [--tree FILE] [--unmatched]"
+    own = commands_of.add_parser(
+        "hold", help="exceptions that hold groups behind a change; with --at cancel backfill", description=__doc__
+    )
+    more = " ".join(
+        ["[--anyway]", "[--undo]", "[--prepare]", "[--to FILE | --batch N --to FOLDER]", "[--no-guard]", "[--json]"]
+    )
+    dumps = f"{FILTERS} [--pools ID|NAME,..] [--tree FILE] [--unmatched]"
     own.usage = (
         f"%(prog)s OSD_DUMP CRUSH_DUMP [CHANGE] {' '.join(USE)} {more} {dumps}\n"
         f"       %(prog)s OLD_OSD_DUMP OLD_CRUSH_DUMP NEW_OSD_DUMP NEW_CRUSH_DUMP {more} {dumps}\n"
@@ -167,8 +249,22 @@ def add_to(commands_of: Commands) -> None:
     own.add_argument("--anyway", action="store_true", help="also where the cluster moves already, or is degraded")
     own.add_argument("--undo", action="store_true", help="the commands that bring the exceptions of the dump back")
     own.add_argument("--batch", metavar="N", type=commands_a_file, help="write files of at most N commands each")
-    own.add_argument("--to", metavar="FOLDER", help="the folder of these files: hold-001.sh, .. or undo-001.sh, ..")
+    own.add_argument(
+        "--to",
+        metavar="FILE|FOLDER",
+        help="the file of the script, written whole or not at all; with --batch the folder of hold-001.sh, .. or "
+        "undo-001.sh, ..",
+    )
+    own.add_argument(
+        "--prepare",
+        action="store_true",
+        help="what goes before the change: parts that bring the groups which a hold would leave to sets that both the "
+        "rules of today and those behind the change allow",
+    )
+    add_part_words(own)
+    add_filter_words(own, "held")
     add_dump_options(own)
+    add_guard(own)
     add_json(own)
     own.set_defaults(names=None)
     set_work(own, options_of, work)

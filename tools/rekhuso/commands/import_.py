@@ -9,7 +9,6 @@ none is a map of its own.
 from __future__ import annotations
 
 import json
-import pathlib
 import sys
 from dataclasses import dataclass
 
@@ -21,19 +20,25 @@ from ..cluster.map_parts import map_clusters
 from ..cluster.omissions import omissions_of, weightless
 from ..cluster.reasons import reasons
 from ..cluster.sources import DumpFiles
+from ..cluster.told_sets import Verified
+from ..cluster.told_view import verified_view
+from ..cluster.unrest import told_unrest, unrest_lines
+from ..cluster.view import ClusterView, sets_in
 from ..faults import Fault, Misuse
-from ..files import JsonObject, put
+from ..files import JsonObject, put, put_folder
 from ..output.json_output import put_json
+from ..plans.hold_checks import check_still
 from ..program.maps import Program, written
 from ..values import SLOTS
 from ..words import counted
-from .arguments import Arguments, Commands, add_dump_options, add_json, set_work
+from .arguments import ABOUT_DUMPS, DUMPS, Arguments, Commands, Dumps, add_dump_options, add_json, set_work
 
 
 @dataclass(frozen=True, **SLOTS)
 class ImportOptions:
     """The dumps; the program; the folder for maps and the file for names, where there are these; whether it is only
-    told if the cluster comes in; and whether all is told as JSON.
+    told if the cluster comes in; whether all is told as JSON; and the file that tells where groups lie, if there is
+    one, and whether the cluster comes in nonetheless where they lie elsewhere.
     """
 
     dumps: DumpFiles
@@ -42,6 +47,8 @@ class ImportOptions:
     names: str | None
     is_check: bool
     is_json: bool
+    pgs: str | None
+    is_anyway: bool
 
 
 def options_of(arguments: Arguments) -> ImportOptions:
@@ -51,8 +58,10 @@ def options_of(arguments: Arguments) -> ImportOptions:
         raise Misuse("--check writes no files: --out and --names do not go with it")
     if own.json and own.out is not None:
         raise Misuse("--json tells all maps at once: --out does not go with it")
-    dumps = DumpFiles(own.osd_dump, own.crush_dump, own.tree, own.pools, own.unmatched, own.program)
-    return ImportOptions(dumps, own.program, own.out, own.names, own.check, own.json)
+    if (own.pgs is not None or own.anyway) and not own.check:
+        raise Misuse("--pgs and --anyway go with --check")
+    dumps = DumpFiles(own.files[0], own.files[1], own.tree, own.pools, own.unmatched, own.program)
+    return ImportOptions(dumps, own.program, own.out, own.names, own.check, own.json, own.pgs, own.anyway)
 
 
 def reasons_against(options: ImportOptions) -> tuple[Cluster, list[str]]:
@@ -62,19 +71,37 @@ def reasons_against(options: ImportOptions) -> tuple[Cluster, list[str]]:
     return cluster, named_reasons(cluster, with_advice(cluster, faults, found, options.dumps))
 
 
+def verified_in(cluster: Cluster, parts: list[Cluster], options: ImportOptions) -> Verified | None:
+    """Has the program see the maps of a cluster, and tells whether the sets by them are the cluster's; None where no
+    file tells that.
+    """
+    maps = [map_of(part) for part in parts]
+    if options.pgs is None or not maps:
+        for value in maps:
+            monitor_of(value, options.program).close()
+        return None
+    view = ClusterView(maps, cluster.all_names(), ImportedCluster(cluster, parts, maps))
+    return verified_view(view, sets_in(view, options.program), options.pgs, options.dumps.pools is None)
+
+
 def check(options: ImportOptions) -> None:
-    """Tells whether a cluster comes in. A fault where it does not: each reason, and what is done about it."""
+    """Tells whether a cluster comes in. A fault where it does not: each reason, and what is done about it; and where
+    its groups lie elsewhere than its maps say.
+    """
     cluster, found = reasons_against(options)
     parts = [] if found else map_clusters(cluster)
-    for part in parts:
-        monitor_of(map_of(part), options.program).close()
+    lies = verified_in(cluster, parts, options)
     if options.is_json:
         pools = [[pool["pool"] for pool in part.pools] for part in parts]
-        put_json("import", cluster.epoch, comes_in=not found, reasons=found, maps=[{"pools": own} for own in pools])
+        told = {"comes_in": not found, "reasons": found, "maps": [{"pools": own} for own in pools]}
+        told.update(unrest=told_unrest(cluster), verified=None if lies is None else lies.counts())
+        put_json("import", cluster.epoch, **told)
     if found:
         raise Fault(*found, f"the cluster stays out, for {counted(len(found), 'reason')}")
     if not options.is_json:
-        print("the cluster comes in" + (f"; {several_words(parts)}" if len(parts) > 1 else " as one map"))
+        comes = "the cluster comes in" + (f"; {several_words(parts)}" if len(parts) > 1 else " as one map")
+        print("\n".join([comes, *unrest_lines(cluster), *([] if lies is None else [lies.summary()])]))
+    check_still([] if lies is None else lies.against(), options.is_anyway, "taken for the cluster's")
 
 
 def omission_lines(cluster: Cluster, has_names: bool) -> list[str]:
@@ -101,13 +128,8 @@ def put_maps(folder: str, maps: ImportedCluster) -> None:
     """Writes each map into a file of a folder, which is made where there is none, and tells the files. A fault where
     it cannot.
     """
-    try:
-        pathlib.Path(folder).mkdir(parents=True, exist_ok=True)
-    except OSError as fault:
-        raise Fault(f"{folder}: {fault.strerror}") from None
-    for part, value in zip(maps.parts, maps.maps):
-        path = str(pathlib.Path(folder, map_file(part)))
-        put(path, written(value) + "\n")
+    files = {map_file(part): written(value) + "\n" for part, value in zip(maps.parts, maps.maps)}
+    for path in put_folder(folder, files):
         print(path)
 
 
@@ -146,11 +168,16 @@ def work(options: ImportOptions) -> None:
 def add_to(commands: Commands) -> None:
     """The subcommand."""
     own = commands.add_parser("import", help="a map of what Ceph's tools dump", description=__doc__)
-    own.add_argument("osd_dump", metavar="OSD_DUMP", help="what `ceph osd dump -f json` prints")
-    own.add_argument("crush_dump", metavar="CRUSH_DUMP", help="what `ceph osd crush dump` prints")
+    own.add_argument("files", metavar=DUMPS, nargs="+", action=Dumps, help=ABOUT_DUMPS)
     own.add_argument("--out", metavar="FOLDER", help="write every map that the cluster takes into this folder")
     own.add_argument(
         "--check", action="store_true", help="only tell whether the cluster comes in, and if not why, and what to do"
+    )
+    own.add_argument(
+        "--pgs", metavar="FILE", help="with --check: also whether groups lie where `ceph pg dump -f json` says"
+    )
+    own.add_argument(
+        "--anyway", action="store_true", help="with --check --pgs: status 0 also where groups lie elsewhere"
     )
     own.add_argument("--names", metavar="FILE", help="write the names of OSDs, buckets, pools and rules into this file")
     add_dump_options(own)

@@ -7,6 +7,7 @@ out, a bar one that is down.
 
 from __future__ import annotations
 
+from ..cluster.reports import with_both
 from ..cluster.sources import Source
 from ..cluster.view import has_crush_dump, view_with_sets
 from ..output.osd_picture import osd_picture
@@ -16,7 +17,7 @@ from .arguments import ABOUT_FILES, Arguments, Commands, add_names, set_work, so
 def sources_of(arguments: Arguments) -> list[Source]:
     """The two dumps of a cluster, or each map."""
     files: list[str] = arguments.files
-    parts = [files] if len(files) == 2 and has_crush_dump(files[1]) else [[path] for path in files]
+    parts = [files] if len(files) == 2 and has_crush_dump(files[1]) else [with_both([path]) for path in files]
     return [source_of(arguments, part) for part in parts]
 
 

@@ -2,10 +2,9 @@
 
 The proved balancer plans each pool beside what its OSDs carry from all others, so that the cluster gets more even too:
 by groups, and with --df by bytes. A plan of a pool moves only between OSDs that differ by more than twice --deviation
-groups; 0.5 is every move. Pools are planned in rounds, so a second plan over the first may find a few commands. The
-first commands are worth most. With --pool only these pools are planned, for the sake of all; with
---alone each pool is planned by itself. Standard error tells how even the cluster is before and after, and then each
-pool.
+groups; 0.5 is every move. A plan goes on until a plan over what it makes is empty, or tells how many commands that has.
+The first commands are worth most. With --pool only these pools are planned, for the sake of all; with --alone each pool
+is planned by itself. Standard error tells how even the cluster is before and after, and then each pool.
 
 Comments above the commands tell what one must know before they are run, and a table below them what moves, by pool and
 by OSD. The commands are the difference of the two maps' exceptions, where each group has the fewest pairs that lead to
@@ -24,6 +23,7 @@ import argparse
 import json
 import re
 import sys
+from collections.abc import Mapping
 from contextlib import ExitStack
 from dataclasses import dataclass, replace
 from fractions import Fraction
@@ -41,22 +41,27 @@ from ..cluster.pool_data import Data
 from ..cluster.primaries import rested_words
 from ..cluster.releases import least_client
 from ..cluster.sources import Source
-from ..cluster.view import ClusterView, has_other_weights, no_plan_words, tree_in
+from ..cluster.unrest import Unrest
+from ..cluster.view import ClusterView, as_in_ceph, has_other_weights, no_plan_words, tree_in
 from ..faults import Fault, Misuse
 from ..output.json_output import put_json
+from ..output.origins import Origin, origin_of, origin_of_map
 from ..output.plan_scripts import Script, WATCH, balancer_words, client_words, part_file, put_batches
+from ..output.plan_states import reasons_of, state_line, state_of
 from ..output.plan_words import plan_lines, quiet_words, refusal_words
 from ..plans.after_plan import quiet_deviation, rested_after
+from ..plans.busy import ALL
+from ..plans.hold_checks import check_still, told_words
 from ..plans.movement import PlaceBytes, place_bytes
-from ..plans.parts import ALL
-from ..plans.plan import Outcome, Wish, misplaced_in, outage_in, planned
+from ..plans.plan import Outcome, Wish, leave_alone, misplaced_in, outage_in, planned
 from ..plans.printed import Asked, Printed
 from ..plans.rounds import Live, MOST_MOVES
 from ..plans.steps import steps_by_pool
 from ..program.maps import Map, Pool, Program, altered
 from ..progress import doing
 from ..values import SLOTS
-from .arguments import Arguments, Commands, add_files, add_json, set_work, source_of
+from .arguments import Arguments, Commands, add_files, add_guard, add_json, set_work, source_of
+from .part_words import PartWords, add_part_words, part_words
 
 # What is told above a plan of its other forms.
 PARTS = "parts:  the same words with --batch N --to FOLDER write files of N commands each, with what each moves"
@@ -70,7 +75,8 @@ class ToldPlan:
     """What is told of plans: the epoch of the map, what the plans are, what the groups weigh, names, from which number
     on Ceph's own balancer leaves the plan alone, if that is known; and of dumps the groups whose named primary does
     nothing any more afterwards, the release that clients must have at least, and what is still to come from before; and
-    by what the commands are judged before they are put out.
+    by what the commands are judged before they are put out; the pools that are not at rest; and where the scripts come
+    from.
     """
 
     epoch: int
@@ -82,6 +88,8 @@ class ToldPlan:
     client: str | None
     misplaced: Misplaced | None
     printed: Printed
+    unrest: Mapping[int, Unrest]
+    origin: Origin
 
     def lines(self, deviation: Fraction | None) -> list[str]:
         """All that is told of plans on standard error."""
@@ -92,7 +100,7 @@ class ToldPlan:
 @dataclass(frozen=True, **SLOTS)
 class Held:
     """What a cluster holds: what files tell, and of it the data of its pools; the weights of all its OSDs; which OSDs
-    it has, None where not all are known; and how full one may get.
+    it has, None where not all are known; how full one may get; and the tree in which they stand.
     """
 
     known: KnownData
@@ -100,13 +108,15 @@ class Held:
     weights: list[int]
     osds: frozenset[int] | None
     nearfull: float
+    tree: Map
 
 
 @dataclass(frozen=True, **SLOTS)
 class PlanOptions:
     """What is planned over, and how: which pools, at most how many commands, how near to the shares, whether each pool
-    by itself, whether for room alone, whether amid an outage too, and by which file of data; and how it is put out: as
-    the way back, in files of so many commands in a folder, or as JSON.
+    by itself, whether for room alone, whether by weights alone, whether amid an outage too, and by which file of data;
+    and how it is put out: as the way back, in files of so many commands in a folder, as JSON, only which of three it
+    is, or without guards.
     """
 
     source: Source
@@ -115,12 +125,20 @@ class PlanOptions:
     deviation: Fraction | None
     is_alone: bool
     is_room: bool
+    is_by_weight: bool
     is_anyway: bool
     data: DataFiles
     is_undo: bool
-    batch: int | None
+    parts: PartWords
     to: str | None
     is_json: bool
+    is_state: bool
+    is_guarded: bool
+
+    def files(self) -> list[str | None]:
+        """All files that a plan goes by."""
+        own, data = self.source, self.data
+        return [*own.paths, own.names, own.tree, data.df, data.pgs, data.osds]
 
 
 def options_of(arguments: Arguments) -> PlanOptions:
@@ -130,6 +148,8 @@ def options_of(arguments: Arguments) -> PlanOptions:
         raise Misuse("--batch and --to go together: files of so many commands, and their folder")
     if own.json and (own.batch is not None or own.undo):
         raise Misuse("--json tells the plan and its undoing at once: --batch and --undo do not go with it")
+    if own.status and (own.json or own.batch is not None or own.undo):
+        raise Misuse("--status tells the state alone: --json, which has it, --batch and --undo do not go with it")
     if own.deviation is not None and own.deviation < LEAST and not own.alone:
         raise Misuse(f"--deviation {float(own.deviation):g}: 0.5 is the whole plan; less goes with --alone")
     if own.room and (own.df is own.pgs is None or own.alone or own.deviation is not None):
@@ -145,12 +165,15 @@ def options_of(arguments: Arguments) -> PlanOptions:
         own.deviation,
         own.alone,
         own.room,
+        own.by_weight,
         own.anyway,
         DataFiles(own.df, own.pgs, own.osds),
         own.undo,
-        own.batch,
+        part_words(own, own.batch is not None, "--batch"),
         own.to,
         own.json,
+        own.status,
+        not own.no_guard,
     )
 
 
@@ -159,12 +182,12 @@ def wish_of(options: PlanOptions, pools: list[Pool], names: Names, held: Held) -
     most = options.most or (MOST_MOVES if options.is_alone else ALL)
     own = {pool["id"]: names.get("pools", {}).get(str(pool["id"]), "") for pool in pools}
     named_pools = frozenset(pools_named(options.pools, own))
-    batch, data = options.batch or ALL, held.data
+    batch, data = options.parts.batch or ALL, held.data
     beside = sorted((data.of_pool if data else {}).keys() - own.keys())
     if options.is_room and beside:
         raise Fault(f"--room wants all pools of the cluster: pool {beside[0]} holds data, and is in no map here")
-    forms = options.is_alone, options.is_room
-    return Wish(named_pools, options.deviation, most, batch, *forms, data, held.nearfull)
+    forms = options.is_alone, options.is_room, options.is_by_weight
+    return Wish(named_pools, options.deviation, most, batch, *forms, data, held.nearfull, options.parts.busy(held.tree))
 
 
 def printed_over(lives: list[Live], outcome: Outcome, program: Program) -> Printed:
@@ -174,7 +197,7 @@ def printed_over(lives: list[Live], outcome: Outcome, program: Program) -> Print
     return Printed(maps, program, {step.group: step.now for step in outcome.steps}, outcome.measure, down, Asked.NAMED)
 
 
-def told_by(lives: list[Live], options: PlanOptions, names: Names, held: Held, epoch: int) -> ToldPlan:
+def told_by(lives: list[Live], options: PlanOptions, names: Names, held: Held, origin: Origin) -> ToldPlan:
     """The plans over some sessions, which end with them. A fault where a pool that is named gets none."""
     check_outage(outage_in(lives), options.is_anyway)
     pools = [pool for live in lives for pool in live.pools.values()]
@@ -189,7 +212,8 @@ def told_by(lives: list[Live], options: PlanOptions, names: Names, held: Held, e
         raise Fault(*(f"{parts['name']}: {refusal_words(parts['refused'] or '')}" for parts in refused))
     weighed = [pool for pool in pools if pool["id"] in {parts["id"] for parts in outcome.pools}]
     quiet, printed = quiet_deviation(lives, outcome), printed_over(lives, outcome, options.source.program)
-    return ToldPlan(epoch, outcome, place_bytes(weighed, data), names, quiet, [], None, None, printed)
+    weights = place_bytes(weighed, data)
+    return ToldPlan(origin.epoch, outcome, weights, names, quiet, [], None, None, printed, {}, origin)
 
 
 def plan_of_map(options: PlanOptions, known: KnownData) -> ToldPlan:
@@ -204,12 +228,25 @@ def plan_of_map(options: PlanOptions, known: KnownData) -> ToldPlan:
         tree = tree_in(source.names)
         if has_other_weights(value, tree):
             raise Fault(no_plan_words(""))
-        data = known.of_cluster(value["pools"], names.get("pools", {}), False)
+        data = known.of_cluster(value["pools"], names.get("pools", {}), False, {})
         weights = {item: own for bucket in tree or value["buckets"] for item, own in bucket["items"] if item >= 0}
-        held = Held(known, data, list(weights.values()), None, NEARFULL)
+        held = Held(
+            known, data, list(weights.values()), None, NEARFULL, altered(value, buckets=tree or value["buckets"])
+        )
         live = Live(value, value, names, judge_of_map(value, names), monitor)
-        told = told_by([live], options, names, held, value["epoch"])
+        origin = origin_of_map(source.program, options.files(), value, names, options.is_guarded)
+        told = told_by([live], options, names, held, origin)
     return told
+
+
+def check_told(whole: ClusterView, lives: list[Live], options: PlanOptions) -> None:
+    """A fault where a dump of groups says that the cluster lies elsewhere than its maps say, unless it is planned
+    nonetheless.
+    """
+    if options.data.pgs is not None:
+        source, ups = options.source, {group: up for live in lives for group, up in live.before.ups.items()}
+        sets = as_in_ceph(whole, ups, source.program)
+        check_still(told_words(whole, sets, options.data.pgs, source.pools is None), options.is_anyway, "planned")
 
 
 def plan_of_dumps(options: PlanOptions, known: KnownData) -> ToldPlan:
@@ -221,8 +258,9 @@ def plan_of_dumps(options: PlanOptions, known: KnownData) -> ToldPlan:
     if whole.has_weight_set:
         raise Fault(whole.no_plan(source.program))
     cluster, pools = found.cluster, [pool for value in found.maps for pool in value["pools"]]
-    data = known.of_cluster(pools, names["pools"], source.pools is None)
-    held = Held(known, data, list(cluster.osd_weights().values()), frozenset(cluster.osds), cluster.nearfull)
+    data = known.of_cluster(pools, names["pools"], source.pools is None, cluster.erasure_rates)
+    weights, osds = list(cluster.osd_weights().values()), frozenset(cluster.osds)
+    held = Held(known, data, weights, osds, cluster.nearfull, whole.tree)
     with ExitStack() as stack:
         lives = [
             Live(
@@ -234,15 +272,18 @@ def plan_of_dumps(options: PlanOptions, known: KnownData) -> ToldPlan:
             )
             for part, value in zip(found.parts, found.maps)
         ]
+        leave_alone(lives, cluster, options.is_anyway)
         misplaced = misplaced_in(lives, whole)
         check_misplaced(misplaced, options.is_anyway)
-        told = told_by(lives, options, names, held, found.cluster.epoch)
+        check_told(whole, lives, options)
+        origin = origin_of(source.program, options.files(), cluster, options.is_guarded)
+        told = told_by(lives, options, names, held, origin)
     rested = rested_after(whole, told.outcome.steps, source.program)
     # Ceph's own balancer takes a reweight above 1 as it is, and placement takes it as 1.
     is_known = all(own["weight"] <= 1 for own in found.cluster.osds.values())
     client = least_client(found.cluster.osd_dump)
     quiet = told.quiet if is_known else None
-    return replace(told, quiet=quiet, rested=rested, client=client, misplaced=misplaced)
+    return replace(told, quiet=quiet, rested=rested, client=client, misplaced=misplaced, unrest=whole.unrest)
 
 
 # What is put out
@@ -259,6 +300,8 @@ def put_plan_json(told: ToldPlan) -> None:
     put_json(
         "plan",
         told.epoch,
+        state=state_of(outcome),
+        why=reasons_of(outcome),
         commands=[line for step in steps for line in step.commands],
         undo=[line for step in steps for line in step.undo],
         cluster={"before": outcome.before, "after": outcome.after, "largest": outcome.largest},
@@ -267,29 +310,34 @@ def put_plan_json(told: ToldPlan) -> None:
         idle_primaries=told.rested,
         upmap_max_deviation=told.quiet,
         misplaced=None if told.misplaced is None else told.misplaced.parts(),
+        unrest=[own.parts() for own in told.unrest.values()],
         moving=weights.moving(steps),
         osds=weights.by_osd(steps),
         pools=pools,
+        **told.origin.parts(),
     )
 
 
 def script_of(told: ToldPlan, options: PlanOptions, number: int = 1, count: int = 1) -> Script:
     """What stands round the commands of a plan or of one of several parts of it, or of what takes these back."""
-    part = f", part {number} of {count}" if options.batch is not None else ""
+    part = f", part {number} of {count}" if options.parts.batch is not None else ""
     before = balancer_words(None if options.is_undo else told.quiet) + client_words(told.client) + WATCH
     if options.is_undo:
         title = f"The way back from a plan over epoch {told.epoch}{part}"
         end = "after:  these groups have the exceptions of that epoch again, whichever part of the plan was run"
-        return Script(title, [*before, end], told.weights, told.names)
+        return Script(title, [*before, end], told.weights, told.names, told.origin)
     order = [f"order:  part {number - 1} is run before, and its groups have moved"] if number > 1 else []
     undo = UNDO + (f", write {part_file('undo', number, count)}" if part else "")
     notes = [*order, undo] if part else [PARTS, undo]
-    return Script(f"A plan over epoch {told.epoch}{part}", before + notes, told.weights, told.names)
+    title = f"A plan over epoch {told.epoch}{part}"
+    return Script(title, before + notes, told.weights, told.names, told.origin)
 
 
 def scripts_of(told: ToldPlan, options: PlanOptions) -> list[str]:
     """The scripts of the plan, or of the way back from it: one, or one for each part of so many commands."""
-    parts = told.outcome.parts if options.batch is not None else [told.outcome.steps] if told.outcome.steps else []
+    parts = (
+        told.outcome.parts if options.parts.batch is not None else [told.outcome.steps] if told.outcome.steps else []
+    )
     found = []
     for number, part in enumerate(parts, 1):
         steps = [step.undone() for step in part] if options.is_undo else part
@@ -321,7 +369,9 @@ def work(options: PlanOptions) -> None:
     print("\n".join(told.lines(options.deviation)), file=sys.stderr)
     if options.is_json:
         put_plan_json(told)
-    elif options.batch is not None:
+    elif options.is_state:
+        print(state_line(told.outcome))
+    elif options.parts.batch is not None:
         put_batches(options.to or "", "undo" if options.is_undo else "plan", scripts)
     else:
         print("".join(scripts), end="")
@@ -359,10 +409,13 @@ def add_to(commands_of: Commands) -> None:
         "[--deviation D]",
         "[--alone]",
         "[--room]",
+        "[--by-weight]",
         "[--undo]",
-        "[--batch N --to FOLDER]",
+        "[--batch N --to FOLDER [--osd-most M] [--host-most M]]",
     ]
-    add_files(own, *forms, "[--df FILE]", "[--pgs FILE]", "[--osds FILE]", "[--anyway]", "[--json]")
+    words = ["[--df FILE]", "[--pgs FILE]", "[--osds FILE]", "[--anyway]", "[--status]", "[--json]", "[--no-guard]"]
+    add_files(own, *forms, *words)
+    add_guard(own)
     add_json(own)
     own.add_argument(
         "--pool",
@@ -390,6 +443,11 @@ def add_to(commands_of: Commands) -> None:
         help="with --df: only the moves that make room, from the OSD that is fullest by bytes; far fewer commands",
     )
     own.add_argument(
+        "--by-weight",
+        action="store_true",
+        help="go by shares by weight alone, as Ceph's balancer does, also where a rule can never give them",
+    )
+    own.add_argument(
         "--undo",
         action="store_true",
         help="the commands that take the groups of the plan back to the exceptions that they have in the files given",
@@ -404,6 +462,12 @@ def add_to(commands_of: Commands) -> None:
         "--anyway",
         action="store_true",
         help="a plan also amid an outage, or while 5 %% of the places are still to move: Ceph's balancer would wait",
+    )
+    add_part_words(own)
+    own.add_argument(
+        "--status",
+        action="store_true",
+        help="in place of the commands one line: planned, nothing to do, or nothing can be planned and why",
     )
     own.add_argument("--to", metavar="FOLDER", help="the folder of these files: plan-001.sh, .. or undo-001.sh, ..")
     own.add_argument(

@@ -20,19 +20,33 @@ from ..cluster.dump_types import OsdDump
 from ..cluster.dumps import first_lines, read_dump
 from ..cluster.imports import imported
 from ..cluster.releases import least_client
+from ..cluster.reports import OSD_PART, dump_in_report
 from ..cluster.sources import Source
 from ..faults import Fault, Misuse
 from ..files import json_of
 from ..output.json_output import put_json
+from ..output.origins import Origin, origin_of
 from ..output.plan_scripts import Script, WATCH, balancer_words, client_words, part_file, put_batches
 from ..output.release_words import peak_words, release_lines
 from ..plans.hold_checks import check_still, moving_words
 from ..plans.movement import place_bytes
-from ..plans.parts import ALL
-from ..plans.release import Release, release_of
+from ..plans.release import Goal, Release, release_of
 from ..program.maps import Exceptions, altered
 from ..values import SLOTS
-from .arguments import Arguments, Commands, Files, add_dump_options, add_json, set_work, source_of
+from .arguments import (
+    ABOUT_DUMPS,
+    DUMPS,
+    Arguments,
+    Commands,
+    Dumps,
+    add_dump_options,
+    add_guard,
+    add_json,
+    set_work,
+    source_of,
+)
+from .filter_words import FILTERS, FilterWords, add_filter_words, filter_words
+from .part_words import PartWords, add_part_words, part_words
 from .plan import commands_a_file
 
 UNDO = "undo:   the same words with --undo, over the same files, which are to be kept"
@@ -41,8 +55,8 @@ UNDO = "undo:   the same words with --undo, over the same files, which are to be
 @dataclass(frozen=True, **SLOTS)
 class ReleaseOptions:
     """The dumps of the cluster as it is held; the OSD dump whose exceptions are kept, if there is one; whether the way
-    leads to a plan; whether a cluster that moves is released too; and how it is put out: as the way back, in files of
-    so many commands in a folder, or as JSON.
+    leads to a plan; whether a cluster that moves is released too; and how it is put out: as the way back, in parts in
+    files of a folder, as JSON, or without guards; and which groups are let go.
     """
 
     source: Source
@@ -50,9 +64,11 @@ class ReleaseOptions:
     is_planned: bool
     is_anyway: bool
     is_undo: bool
-    batch: int | None
+    parts: PartWords
     to: str | None
     is_json: bool
+    is_guarded: bool
+    chosen: FilterWords
 
 
 def options_of(arguments: Arguments) -> ReleaseOptions:
@@ -62,7 +78,10 @@ def options_of(arguments: Arguments) -> ReleaseOptions:
         raise Misuse("--batch and --to go together: files of so many commands, and their folder")
     if own.json and (own.to is not None or own.undo):
         raise Misuse("--json tells the parts and their undoing at once: --to and --undo do not go with it")
-    return ReleaseOptions(source_of(own), own.keep, own.to_plan, own.anyway, own.undo, own.batch, own.to, own.json)
+    parts = part_words(own, own.batch is not None, "--batch")
+    chosen = filter_words(own, own.leaves)
+    forms = own.keep, own.to_plan, own.anyway, own.undo, parts, own.to, own.json, not own.no_guard
+    return ReleaseOptions(source_of(own), *forms, chosen)
 
 
 def kept_in(path: str | None, cluster: Cluster) -> Exceptions:
@@ -71,7 +90,7 @@ def kept_in(path: str | None, cluster: Cluster) -> Exceptions:
     """
     if path is None:
         return {"pg_upmap": [], "pg_upmap_items": []}
-    value, _, faults = read_dump(path, json_of(path), OSD_DUMP)
+    value, _, faults = read_dump(path, dump_in_report(path, OSD_PART) or json_of(path), OSD_DUMP)
     if faults:
         raise Fault(*first_lines(faults))
     dump: OsdDump = altered(value)  # type: ignore[assignment]
@@ -85,27 +104,28 @@ def kept_in(path: str | None, cluster: Cluster) -> Exceptions:
     }
 
 
-def script_of(found: Release, cluster: Cluster, options: ReleaseOptions, number: int) -> Script:
+def script_of(found: Release, cluster: Cluster, options: ReleaseOptions, origin: Origin, number: int) -> Script:
     """What stands round the commands of a part."""
-    count = len(found.parts)
-    part = f", part {number} of {count}" if options.batch is not None else ""
+    count, names = len(found.parts), cluster.all_names()
+    part = f", part {number} of {count}" if options.parts.batch is not None else ""
     weights = place_bytes(found.pools, None)
     before = balancer_words(None) + client_words(least_client(cluster.osd_dump)) + WATCH
     if options.is_undo:
         title = f"The way back from a release over epoch {found.epoch}{part}"
-        return Script(title, before, weights, cluster.all_names())
+        return Script(title, before, weights, names, origin)
     order = [f"order:  part {number - 1} is run before, and its groups have moved"] if number > 1 else []
     undo = UNDO + (f", write {part_file('undo', number, count)}" if part else "")
     notes = [f"peak:   {peak_words(found, number)}", *order, "stop:   give no further part", undo]
-    return Script(f"Releases held groups over epoch {found.epoch}{part}", before + notes, weights, cluster.all_names())
+    title = f"Releases held groups over epoch {found.epoch}{part}"
+    return Script(title, before + notes, weights, names, origin)
 
 
-def scripts_of(found: Release, cluster: Cluster, options: ReleaseOptions) -> list[str]:
+def scripts_of(found: Release, cluster: Cluster, options: ReleaseOptions, origin: Origin) -> list[str]:
     """The parts, or the way back from them, a script each."""
     texts = []
     for number, part in enumerate(found.parts, 1):
         steps = [step.undone() for step in part] if options.is_undo else part
-        texts.append(script_of(found, cluster, options, number).text(steps))
+        texts.append(script_of(found, cluster, options, origin, number).text(steps))
     return texts
 
 
@@ -121,7 +141,7 @@ def check_printed(found: Release, scripts: list[str], options: ReleaseOptions) -
         found.printed.check_scripts(scripts, found.lengths, [])
 
 
-def put_release_json(found: Release) -> None:
+def put_release_json(found: Release, origin: Origin) -> None:
     """Puts out the parts, their undoing and what they move as one object."""
     weights = place_bytes(found.pools, None)
     put_json(
@@ -129,6 +149,7 @@ def put_release_json(found: Release) -> None:
         found.epoch,
         moving=weights.moving(found.steps),
         stay=found.stay,
+        left_alone=[own.parts() for own in found.alone.values()],
         fullest={"before": found.before, "after": found.after},
         parts=[
             {
@@ -139,6 +160,7 @@ def put_release_json(found: Release) -> None:
             }
             for part, peak in zip(found.parts, found.peaks)
         ],
+        **origin.parts(),
     )
 
 
@@ -147,38 +169,32 @@ def work(options: ReleaseOptions) -> None:
     source, program = options.source, options.source.program
     cluster = imported(source.dumps()).cluster
     check_still(moving_words(cluster, program), options.is_anyway, "released")
-    kept = kept_in(options.keep, cluster)
-    found = release_of(cluster, kept, options.is_planned, options.batch or ALL, program)
-    scripts = scripts_of(found, cluster, options)
+    goal = Goal(kept_in(options.keep, cluster), options.is_planned, options.is_anyway, options.chosen.chosen(cluster))
+    found = release_of(cluster, goal, options.parts.size(cluster), program)
+    origin = origin_of(program, [*source.paths, source.tree, options.keep], cluster, options.is_guarded)
+    scripts = scripts_of(found, cluster, options, origin)
     check_printed(found, scripts, options)
     print("\n".join(release_lines(found)), file=sys.stderr)
     if options.is_json:
-        put_release_json(found)
+        put_release_json(found, origin)
     elif options.to is not None:
         put_batches(options.to, "undo" if options.is_undo else "release", scripts)
     else:
         print("".join(scripts), end="")
 
 
-class Dumps(Files):
-    """Two files; an error of use where there are others."""
-
-    counts, words = (2,), "the two dumps of a cluster"
-
-
 def add_to(commands_of: Commands) -> None:
     """The subcommand."""
-    own = commands_of.add_parser("release", help="lets go of held groups, part by part", description=__doc__)
+    own = commands_of.add_parser(
+        "release", help="lets go of held groups, part by part; with --from undo upmaps", description=__doc__
+    )
     own.usage = (
         "%(prog)s OSD_DUMP CRUSH_DUMP [--keep OSD_DUMP] [--to-plan] [--anyway] [--undo] [--batch N --to FOLDER] "
+        f"[--osd-most M] [--host-most M] [--from OSD|BUCKET,..] {FILTERS} [--no-guard] "
         "[--json] [--pools ID|NAME,..] [--tree FILE] [--unmatched]"
     )
     own.add_argument(
-        "files",
-        metavar="OSD_DUMP CRUSH_DUMP",
-        nargs="+",
-        action=Dumps,
-        help="what `ceph osd dump -f json` and `ceph osd crush dump` print of the cluster as it is held",
+        "files", metavar=DUMPS, nargs="+", action=Dumps, help=f"{ABOUT_DUMPS}: those of the cluster as it is held"
     )
     own.add_argument("--keep", metavar="OSD_DUMP", help="the dump before the hold, whose exceptions are kept")
     own.add_argument("--to-plan", action="store_true", help="on to what `plan` makes of the cluster, each group once")
@@ -186,7 +202,16 @@ def add_to(commands_of: Commands) -> None:
     own.add_argument("--undo", action="store_true", help="the way back to what is held in the dumps")
     own.add_argument("--batch", metavar="N", type=commands_a_file, help="parts of at most N commands each")
     own.add_argument("--to", metavar="FOLDER", help="the folder of their files: release-001.sh, .. or undo-001.sh, ..")
+    add_part_words(own)
+    own.add_argument(
+        "--from",
+        dest="leaves",
+        metavar="OSD|BUCKET,..",
+        help="only groups are let go that then leave one of these OSDs: it gives back what exceptions brought there",
+    )
+    add_filter_words(own, "let go")
     add_dump_options(own)
+    add_guard(own)
     add_json(own)
     own.set_defaults(names=None)
     set_work(own, options_of, work)

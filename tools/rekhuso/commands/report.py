@@ -5,6 +5,7 @@ from __future__ import annotations
 from dataclasses import dataclass
 
 from ..cluster.disks import disks_of
+from ..cluster.reports import OSD_PART, dump_in_report
 from ..cluster.sources import Source
 from ..cluster.view import view_with_sets
 from ..files import json_of
@@ -15,7 +16,9 @@ from .arguments import Arguments, Commands, add_files, add_osds, set_work, sourc
 
 def title_of(source: Source) -> str:
     """The cluster that the OSD dump tells by its id; else the name of the file."""
-    cluster = json_of(source.paths[0]).get("fsid") if source.has_dumps else None
+    path = source.paths[0]
+    dump = (dump_in_report(path, OSD_PART) or json_of(path)) if source.has_dumps else {}
+    cluster = dump.get("fsid")
     return f"Cluster {cluster}" if isinstance(cluster, str) else source.paths[0]
 
 

@@ -11,9 +11,7 @@ from __future__ import annotations
 
 import contextlib
 import io
-import os
 import pathlib
-import shutil
 import signal
 import sys
 from collections.abc import Iterator
@@ -24,7 +22,8 @@ from ..cluster.imports import imported
 from ..cluster.map_files import map_monitor
 from ..cluster.names import Names, named, names_in
 from ..cluster.sources import Source
-from ..faults import Misuse
+from ..faults import Misuse, Trouble
+from ..files import put
 from ..program.answers import up_of
 from ..program.maps import Program
 from ..program.monitor import Monitor
@@ -64,35 +63,19 @@ def completer(text: str, number: int) -> str | None:
     return found[number] + " " if number < len(found) else None
 
 
-def put_whole(path: str, text: str) -> None:
-    """Puts a text in place of a file at once; into what is no file (a pipe, a terminal) it is written."""
-    if os.path.exists(path) and not os.path.isfile(path):
-        with open(path, "w", encoding="utf-8") as file:
-            file.write(text)
-        return
-    place = os.path.realpath(path)
-    beside = f"{place}.{os.getpid()}"
-    try:
-        with open(beside, "x", encoding="utf-8") as file:
-            file.write(text)
-        if os.path.exists(place):
-            shutil.copymode(place, beside)
-        os.replace(beside, place)
-    except BaseException:
-        if os.path.exists(beside):
-            os.remove(beside)
-        raise
+class Unsaved(Trouble):
+    """A map that could not be saved."""
 
 
 def saved(monitor: Monitor, path: str) -> str:
-    """Writes the map to a file: beside it first, so that a write which fails leaves what stood there."""
+    """Writes the map to a file. `Unsaved` where it cannot, which leaves what stood there."""
     text = monitor.text()
     try:
-        put_whole(path, text + "\n")
-    except OSError as fault:
-        return f"{path}: {fault.strerror}"
+        put(path, text + "\n")
     except ValueError:
-        return f"{path!r}: no path"
+        raise Unsaved(f"{path!r}: no path") from None
+    except Trouble as fault:
+        raise Unsaved(*fault.lines) from None
     return f"saved {path}"
 
 
@@ -181,9 +164,15 @@ class Prompt:
             self.end()
 
 
-def is_last(live: LiveMap, line: str, is_terminal: bool) -> bool:
-    """Shows what there is to show for a line, and tells whether it ends the shell. An empty line is passed over."""
-    answer = shown(live.monitor, line) if line else ""
+def is_last(live: LiveMap, line: str, is_terminal: bool, failed: list[str]) -> bool:
+    """Shows what there is to show for a line, and tells whether it ends the shell; where it failed, why, is kept. An
+    empty line is passed over.
+    """
+    try:
+        answer = shown(live.monitor, line) if line else ""
+    except Unsaved as fault:
+        answer = fault.lines[0]
+        failed.append(f"save: {answer}")
     if answer:
         more = remark(live, answer) if is_terminal else None
         print(answer if more is None else f"{answer}\n  {more}", flush=True)
@@ -222,7 +211,7 @@ def prompted(live: LiveMap) -> None:
     with history(), Prompt() as prompt:
         while True:
             try:
-                if is_last(live, prompt.line().strip(), True):
+                if is_last(live, prompt.line().strip(), True, []):
                     return
             except EOFError:
                 print()
@@ -232,10 +221,13 @@ def prompted(live: LiveMap) -> None:
 
 
 def piped(live: LiveMap) -> None:
-    """Reads lines from a pipe or a file, as they are, until they end."""
+    """Reads lines from a pipe or a file, as they are, until they end. A fault then for each map that was not saved."""
+    failed: list[str] = []
     for line in sys.stdin:
-        if is_last(live, line.removesuffix("\n"), False):
-            return
+        if is_last(live, line.removesuffix("\n"), False, failed):
+            break
+    if failed:
+        raise Trouble(*failed)
 
 
 @dataclass(frozen=True, **SLOTS)
@@ -293,7 +285,7 @@ def work(options: ShellOptions) -> None:
 class Begun(Files):
     """No file, one or two; an error of use where there are more."""
 
-    counts, words = (0, 1, 2), "one map, or two dumps"
+    counts, words, has_input = (0, 1, 2), "one map, or two dumps", False
 
 
 def add_to(commands_of: Commands) -> None:

@@ -18,7 +18,7 @@ from ..cluster.effects import Host, weight_units
 from ..cluster.names import Names, named, pools_named
 from ..cluster.new_crush import NewCrush, PoolChange, crush_in
 from ..cluster.shadows import SIGN
-from ..faults import Fault, Misuse
+from ..faults import Fault, Misuse, Trouble
 from ..files import text_of
 from ..program.maps import Change, Map, entries_of
 from ..values import SLOTS
@@ -27,7 +27,7 @@ from ..values import SLOTS
 FULL_WEIGHT = 65536
 REWEIGHTS = {"out": 0, "in": FULL_WEIGHT}
 # The words of which those that stand together are one command.
-TOGETHER = ("out", "in", "down")
+TOGETHER = ("out", "in", "down", "up")
 IN_FORCE = "a compat weight set (choose_args) is in force, which Ceph places by in place of weights"
 # What of a pool may be changed.
 OF_POOLS = ("rule", "size", "pg_num", "pgp_num")
@@ -93,7 +93,7 @@ def change_in(word: str) -> Change:
         try:
             return change_value(text_of(word))
         except ValueError as fault:
-            raise Fault(f"{word}: {fault}") from None
+            raise Trouble(f"{word}: {fault}") from None
     try:
         return change_value(word)
     except ValueError as fault:
@@ -261,12 +261,13 @@ class WordReader:
         return osd in self.cluster.osds and self.now.get(osd, self.cluster.osds[osd]["weight"]) == 0
 
     def states(self, kind: str, words: list[str]) -> Command:
-        """The command that puts OSDs out, in or down. An OSD that comes in has the reweight again with which it went
-        out.
+        """The command that puts OSDs out or in, or that they go down or come up. An OSD that comes in has the reweight
+        again with which it went out.
         """
-        if kind == "down":
-            down = {osd for word in words for osd in osds_named(self.tree, self.names, word)}
-            return StateChange({"down": sorted(down)})
+        if kind in ("down", "up"):
+            named = {osd for word in words for osd in osds_named(self.tree, self.names, word)}
+            there = {osd["id"]: bool(osd["up"]) for osd in self.tree["osds"]}
+            return StateChange({kind: sorted(osd for osd in named if kind == "down" or not there[osd])})
         found = {osd: weight for word in words for osd, weight in self.reweighed(word, REWEIGHTS[kind], True)}
         if kind == "in":
             before = reweights_before(self.cluster)

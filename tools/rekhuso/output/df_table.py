@@ -2,23 +2,25 @@
 
 from __future__ import annotations
 
-from collections.abc import Iterable, Mapping
+from collections.abc import Iterable, Mapping, Sequence
 
 from ..cluster.disks import Disk, KIB
 from ..cluster.evenness import Spread
-from ..cluster.json_forms import RowParts
+from ..cluster.json_forms import FullParts, RowParts
 from ..cluster.names import Names, named
 from ..cluster.shares import Shares, spread_parts
 from ..files import JsonObject
-from ..words import size_words
+from ..words import counted, listed, size_words
 from .tables import aligned
 
-COLUMNS = ["ID", "CLASS", "WEIGHT", "REWEIGHT", "SHARE", "DEVIATION", "RATIO", "PGS", "STATUS", "TYPE NAME"]
+COLUMNS = ["ID", "CLASS", "WEIGHT", "REWEIGHT", "SHARE", "REACH", "DEVIATION", "RATIO", "PGS", "STATUS", "TYPE NAME"]
 # The columns of disks, which stand behind REWEIGHT where these are known, as in Ceph's table.
 DISK_COLUMNS, DISKS_AT = ["SIZE", "RAW USE", "AVAIL", "%USE"], 4
 # The state of an OSD as Ceph tells it: one that is out has the reweight 0.
 STATUS = {"up": "up", "up,out": "up", "down": "down", "down,out": "down", "absent": "DNE"}
 INDENT = "    "
+# Of so many buckets at most it is told that they are full.
+MOST_FULL = 4
 # The keys of disks, by those that a row has: in the totals as Ceph has them there.
 NODE_KEYS = {key: key for key in ("kb", "kb_used", "kb_avail", "utilization")}
 SUMMARY_KEYS = {
@@ -52,6 +54,7 @@ def node(shares: Shares, row: RowParts, names: Names, disks: Mapping[int, Disk])
         "crush_weight": row["weight"],
         "pgs": row["groups"],
         "share": row["share"],
+        "reach": row["reach"],
         "ratio": None if filled is None else round(filled, 4),
         **disk_parts(shares.below(number), disks),
     }
@@ -86,6 +89,7 @@ def summary(shares: Shares, disks: Mapping[int, Disk]) -> JsonObject:
         "crush_weight": total["weight"],
         "pgs": total["groups"],
         "share": total["share"],
+        "reach": total["reach"],
         "min_pgs": even["least"],
         "max_pgs": even["greatest"],
         "min_ratio": round(min(ratios, default=0.0), 4),
@@ -118,19 +122,20 @@ def cells(own: JsonObject, depth: int) -> list[str]:
 
 def group_cells(own: JsonObject, depth: int) -> list[str]:
     """The same without its disks."""
-    weight, groups, share = decimal(own["crush_weight"], 5), str(own["pgs"]), decimal(own["share"], 2)
+    weight, groups = decimal(own["crush_weight"], 5), str(own["pgs"])
+    shares = [decimal(own[key], 2) for key in ("share", "reach")]
     filled = "-" if own["ratio"] is None else decimal(own["ratio"], 2)
     if own["id"] < 0:
         name = (
             f"{own['type']} {own['name']}" if not own["type"].startswith("type ") else f"{own['name']} of {own['type']}"
         )
-        return [str(own["id"]), "", weight, "-", share, "-", filled, groups, "", INDENT * depth + name]
+        return [str(own["id"]), "", weight, "-", *shares, "-", filled, groups, "", INDENT * depth + name]
     return [
         str(own["id"]),
         own["device_class"],
         weight,
         decimal(own["reweight"], 5),
-        share,
+        *shares,
         f"{own['deviation']:+.2f}",
         filled,
         groups,
@@ -141,9 +146,38 @@ def group_cells(own: JsonObject, depth: int) -> list[str]:
 
 def total_row(total: JsonObject) -> list[str]:
     """The row of the totals."""
-    weight, share = decimal(total["crush_weight"], 5), decimal(total["share"], 2)
+    weight, shares = decimal(total["crush_weight"], 5), [decimal(total[key], 2) for key in ("share", "reach")]
     disks = disk_cells(total, SUMMARY_KEYS)
-    return ["", "", weight, "", *disks, share, "", "", str(total["pgs"]), "", "TOTAL"]
+    return ["", "", weight, "", *disks, *shares, "", "", str(total["pgs"]), "", "TOTAL"]
+
+
+def full_words(full: Sequence[FullParts], names: Names) -> str:
+    """Why a pool cannot be even by weight; nothing where it can."""
+    rest = len(full) - MOST_FULL
+    words = [
+        f"{place_of(own, names)} holds {places_words(own['places'])} of each group ({own['wanted']:.2f} by weight)"
+        for own in full[:MOST_FULL]
+    ]
+    more = [f"{counted(rest, 'bucket')} more"] if rest > 0 else []
+    return f"it cannot be even by weight: {listed(words + more)}" if words else ""
+
+
+def place_of(own: FullParts, names: Names) -> str:
+    """A bucket by its type and name."""
+    kind = names.get("types", {}).get(str(own["type"]), f"type {own['type']}")
+    return f"{kind} {named(names, 'buckets', own['id'])}"
+
+
+def places_words(places: int) -> str:
+    """How many places of each group."""
+    return "one place" if places == 1 else f"{places} places"
+
+
+def with_reach(columns: list[str], rows: list[list[str]], told: Sequence[RowParts | JsonObject]) -> list[list[str]]:
+    """Rows of these columns, of which that of the reach goes where it is the share of all that is told."""
+    at = columns.index("REACH")
+    is_other = any(own["reach"] != own["share"] for own in told)
+    return rows if is_other else [row[:at] + row[at + 1 :] for row in rows]
 
 
 def tree_lines(tree: list[JsonObject], stray: list[JsonObject], total: JsonObject) -> list[str]:
@@ -154,4 +188,4 @@ def tree_lines(tree: list[JsonObject], stray: list[JsonObject], total: JsonObjec
         rows.append([""] * (len(columns) - 1) + ["outside every bucket"])
     rows += [cells(own, 1) for own in stray]
     rows.append(total_row(total))
-    return aligned(rows)
+    return aligned(with_reach(columns, rows, [*tree, *stray]))

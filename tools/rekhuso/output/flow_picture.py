@@ -2,11 +2,11 @@
 
 from __future__ import annotations
 
-import html
 
 from ..cluster.names import Names, named
 from ..program.maps import Map
 from .flow_words import move_words
+from ..words import escaped
 
 FLOW_STYLE = (
     "text{font:11px sans-serif;fill:#333}.t{font-weight:bold}.b{fill:#555}.f{fill:none;stroke-opacity:.45}"
@@ -50,7 +50,7 @@ def bars(counts: dict[int, int], tops: dict[int, float], scale: float, names: Na
     """The bars of one side, each with the host's name and number where there is room for it."""
     parts, edge = [], SIDE if left else WIDTH - SIDE - BAR
     for host, count in counts.items():
-        name = html.escape(f"{named(names, 'buckets' if host < 0 else 'osds', host)}: {count}")
+        name = escaped(f"{named(names, 'buckets' if host < 0 else 'osds', host)}: {count}")
         parts.append(
             f'<g><title>{name}</title><rect x="{edge}" y="{tops[host]:.1f}" width="{BAR}" '
             f'height="{max(count * scale, 0.5):.1f}" class="b"/></g>'
@@ -76,7 +76,7 @@ def bands(
                 wide, half = count * scale, WIDTH / 2
                 start, end = outs[was] + wide / 2, ins[now] + wide / 2
                 outs[was], ins[now] = outs[was] + wide, ins[now] + wide
-                told = html.escape(
+                told = escaped(
                     f"{count} from {named(names, 'buckets' if was < 0 else 'osds', was)} to "
                     f"{named(names, 'buckets' if now < 0 else 'osds', now)}"
                 )

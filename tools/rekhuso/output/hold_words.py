@@ -2,9 +2,12 @@
 
 from __future__ import annotations
 
+from ..cluster.unrest import losing_lines
+from ..plans.guards import ASKS_TO_STAY, AT_COMMANDS, AT_FIRST, AT_FLAG, AT_LAST, STAYS, STAYS_BEHIND_PARTS, TRAPS, WAS
 from ..plans.hold import Hold
 from ..words import counted, some
 from .flow_words import move_words
+from .hold_heads import HoldHead, with_end
 from .plan_scripts import client_words, comments
 
 # How many groups that are not held are told by their names, for each reason.
@@ -13,8 +16,8 @@ MOST_LEFT = 40
 TO_COME = [
     "order:  the change comes first, and nothing moves meanwhile: give its command behind the name of this script, as",
     '        sh hold.sh ceph osd setcrushmap -i NEW; it is run where "$@" stands. Pairs before it are taken away again',
-    "at once: together.py of the tools gives a CRUSH map and these commands within one map: then nothing is elsewhere",
-    "        at any epoch",
+    "at once: rekhuso together gives a CRUSH map and these commands within one map: then nothing is elsewhere at any",
+    "        epoch",
 ]
 MADE = ["order:  the change is made; give these soon, as what has moved by then comes back"]
 BACK = [
@@ -26,9 +29,32 @@ AFTER = [
     "undo:   the same words with --undo, over the same files, which are to be kept",
 ]
 NEEDS_CHANGE = '[ $# -gt 0 ] || { echo "give the command of the change behind the name of this script" >&2; exit 2; }'
-BEGIN, CHANGE, END = ["ceph balancer off", "ceph osd set norebalance"], '"$@"', "ceph osd unset norebalance"
+CHANGE, END = '"$@"', "ceph osd unset norebalance"
+BEGIN = [*TRAPS, AT_FIRST, WAS, "ceph balancer off", "ceph osd set norebalance", AT_FLAG]
+ENDING = [AT_LAST, STAYS, END]
 # The lines of a script that are no commands on exceptions.
-ROUND = [NEEDS_CHANGE, *BEGIN, CHANGE, END]
+ROUND = [NEEDS_CHANGE, *BEGIN, CHANGE, AT_COMMANDS, *ENDING, STAYS_BEHIND_PARTS, ASKS_TO_STAY]
+
+
+# What can be held instead, by the reason why groups are not.
+INSTEAD = {
+    "an OSD that weighs 0": "a weight of 0.0001 in place of 0 can be held: `drain` begins with it, and ends with 0",
+    "an OSD that is out": "hold before out: a weight of 0.0001 can be held: `drain` begins with it, and ends with out",
+}
+
+
+def instead_lines(hold: Hold) -> list[str]:
+    """What can be held in place of a change by which groups are not."""
+    steps = {own.why.step for own in hold.left() if own.why is not None}
+    return [words for step, words in INSTEAD.items() if step in steps]
+
+
+def idle_lines(hold: Hold) -> list[str]:
+    """That nothing is held, and what would be."""
+    lines = hold_lines(hold)
+    first = f"nothing is held: of {counted(len(hold.moving()), 'group')} that would move none can be"
+    instead = instead_lines(hold)
+    return [first, *instead, *(line for line in lines if line not in instead)]
 
 
 def hold_lines(hold: Hold) -> list[str]:
@@ -52,28 +78,35 @@ def hold_lines(hold: Hold) -> list[str]:
     if told["other_primary"]:
         keep = "group keeps its" if len(told["other_primary"]) == 1 else "groups keep their"
         lines.append(f"{len(told['other_primary'])} {keep} OSDs with another primary")
-    return lines
+    return lines + instead_lines(hold) + losing_lines(hold.unrest, told["losing"], MOST_LEFT)
 
 
-def hold_script(hold: Hold, is_undo: bool, is_made: bool, part: int, parts: list[list[str]]) -> str:
+def with_keeping(commands: list[str], part: int, parts: int, change: list[str]) -> list[str]:
+    """The commands of a part between what keeps data where it is and what ends that; the change comes first."""
+    begin = [*BEGIN, *([ASKS_TO_STAY] if parts > 1 else []), *change] if part == 1 else [*TRAPS]
+    end = [AT_LAST, STAYS if parts == 1 else STAYS_BEHIND_PARTS, END] if part == parts else []
+    return [*begin, AT_COMMANDS, *commands, *end]
+
+
+def hold_script(hold: Hold, head: HoldHead, is_made: bool, part: int, parts: list[list[str]]) -> str:
     """A part of the commands with what is told of them: the first part begins by what keeps data where it is, and the
-    change where that is still to come; the last part ends that.
+    change where that is still to come; the last part ends that. The last line says that the script is whole.
     """
     told, name = hold.told(), f", part {part} of {len(parts)}" if len(parts) > 1 else ""
-    count, lines = counted(len(parts[part - 1]), "command"), [*parts[part - 1]]
+    count, lines, is_undo = counted(len(parts[part - 1]), "command"), [*parts[part - 1]], head.is_undo
+    own = head.lines(len(lines), part, len(parts))
     if is_undo:
         title = f"The way back from holding groups over epoch {hold.epoch}{name}, by {count}"
     else:
         title = f"Holds {told['held']} of {told['groups']} groups that move, over epoch {hold.epoch}{name}, by {count}"
     order = BACK if is_undo else MADE if is_made else TO_COME
-    if part == 1:
-        needs = [NEEDS_CHANGE] if not is_undo and not is_made else []
-        lines = [*needs, *BEGIN, *([] if is_made and not is_undo else [CHANGE]), *lines]
-    if part == len(parts):
-        lines.append(END)
+    needs = [NEEDS_CHANGE] if part == 1 and not is_undo and not is_made else []
+    guards = head.guards(part).lines(lines)
+    lines = with_keeping(lines, part, len(parts), [] if is_made and not is_undo else [CHANGE])
     notes = [
         *client_words(hold.client),
         *(order if part == 1 else [f"order:  part {part - 1} is run before"]),
         *([] if is_undo else AFTER),
     ]
-    return "\n".join([*comments([title, *notes]), "set -e", *lines]) + "\n"
+    above = comments([title, *head.origin.notes(), *notes])
+    return with_end("\n".join([above[0], *own, *above[1:], "set -e", *needs, *guards, *lines]) + "\n")

@@ -2,13 +2,12 @@
 
 from __future__ import annotations
 
-import html
 from collections.abc import Mapping
 
 from ..cluster.disks import Disk
 from ..cluster.names import Names, named
 from ..cluster.shares import Shares
-from ..words import counted, size_words
+from ..words import counted, escaped, size_words
 
 # Squares keep their colours in the dark, and so what stands in them.
 PICTURE_STYLE = (
@@ -56,7 +55,7 @@ def cell(shares: Shares, osd: int, left: int, top: int, told: str) -> str:
     fill = colour(row["groups"], row["share"])
     number = "" if marks else f'<text x="{left + CELL // 2}" y="{top + CELL // 2 + 3}" class="n">{row["groups"]}</text>'
     return (
-        f'<g><title>{html.escape(told)}</title><rect x="{left}" y="{top}" width="{CELL}" height="{CELL}" '
+        f'<g><title>{escaped(told)}</title><rect x="{left}" y="{top}" width="{CELL}" height="{CELL}" '
         f'fill="{fill}" class="c"/>{marks}{number}</g>'
     )
 
@@ -94,11 +93,11 @@ def drawn(shares: Shares, names: Names, left: int, begin: int, disks: Mapping[in
             if top > TALL:
                 left, top = left + column, begin
             parts.append(
-                f'<text x="{left}" y="{top + 12}" class="r">{html.escape(named(names, "buckets", int(above)))}</text>'
+                f'<text x="{left}" y="{top + 12}" class="r">{escaped(named(names, "buckets", int(above)))}</text>'
             )
             top += ROW
         last = above
-        parts.append(f'<text x="{left}" y="{top + 13}">{html.escape(named(names, "buckets", host))}</text>')
+        parts.append(f'<text x="{left}" y="{top + 13}">{escaped(named(names, "buckets", host))}</text>')
         devices = [item for item, _ in shares.buckets[host]["items"] if item >= 0]
         for at, osd in enumerate(devices):
             place = left + LABEL + at % ACROSS * (CELL + GAP), top + at // ACROSS * (CELL + GAP)
@@ -113,7 +112,7 @@ def osd_picture(maps: list[Shares], names: Names, titles: list[str], disks: Mapp
     parts, left, height = [], 8, 0
     for shares, title in zip(maps, titles):
         own, right, tall = drawn(shares, names, left, TITLED if title else BARE, disks or {})
-        parts += [f'<text x="{left}" y="16" class="r">{html.escape(title)}</text>'] if title else []
+        parts += [f'<text x="{left}" y="16" class="r">{escaped(title)}</text>'] if title else []
         parts += own
         left, height = right, max(height, tall)
     width = max(left, LEGEND)

@@ -2,7 +2,6 @@
 
 from __future__ import annotations
 
-import html
 import json
 from collections.abc import Mapping, Sequence
 from contextlib import ExitStack
@@ -18,14 +17,14 @@ from ..plans.steps import PlanStep
 from ..program.answers import Up
 from ..program.maps import Map, Program, altered, entries_of, group_key, with_all_up
 from ..program.questions import up_sets
-from ..words import counted
-from .df_table import DISK_COLUMNS, cells, node, nodes, summary, total_row
+from ..words import counted, escaped
+from .df_table import DISK_COLUMNS, cells, full_words, node, nodes, summary, total_row, with_reach
 from .flow_picture import flow_picture
 from .osd_picture import osd_picture
 from .plan_words import page_words
 
 # The columns of `df`, those first that a narrow screen shows.
-PAGE_COLUMNS = ["PGS", "SHARE", "DEVIATION", "RATIO", "STATUS", "WEIGHT", "REWEIGHT", "CLASS"]
+PAGE_COLUMNS = ["PGS", "SHARE", "REACH", "DEVIATION", "RATIO", "STATUS", "WEIGHT", "REWEIGHT", "CLASS"]
 PAGE_STYLE = """:root{color-scheme:light dark}body{font:15px/1.45 system-ui,sans-serif;margin:1rem auto;max-width:86rem;
 padding:0 1rem}
 table{border-collapse:collapse;width:100%;display:block;overflow-x:auto}
@@ -51,15 +50,15 @@ v=r=>r.children[k].textContent,n=x=>parseFloat(x.replace('osd.',''));
 
 def table(columns: list[str], rows: Sequence[Sequence[object]], kind: str = "sorts") -> str:
     """A table, which a click on a column sorts unless it is of another kind."""
-    head = "".join(f"<th>{html.escape(column)}</th>" for column in columns)
-    body = "".join("<tr>" + "".join(f"<td>{html.escape(str(entry))}</td>" for entry in row) + "</tr>" for row in rows)
+    head = "".join(f"<th>{escaped(column)}</th>" for column in columns)
+    body = "".join("<tr>" + "".join(f"<td>{escaped(str(entry))}</td>" for entry in row) + "</tr>" for row in rows)
     return f'<table class="{kind}"><thead><tr>{head}</tr></thead><tbody>{body}</tbody></table>'
 
 
 def page_row(row: list[str]) -> list[str]:
     """A row of `df` as the page has it: the name first, then the groups, so that a narrow screen shows both."""
-    number, kind, weight, reweight, *disks, share, deviation, var, groups, status, name = row
-    return [name, groups, share, deviation, var, status, weight, reweight, *disks, kind]
+    number, kind, weight, reweight, *disks, share, reach, deviation, var, groups, status, name = row
+    return [name, groups, share, reach, deviation, var, status, weight, reweight, *disks, kind]
 
 
 def page_columns(disks: Mapping[int, Disk]) -> list[str]:
@@ -81,6 +80,12 @@ def osd_rows(shares: Shares, names: Names, disks: Mapping[int, Disk]) -> list[li
     return [page_row([*cells(own, 0)[:-1], own["name"]]) for own in found]
 
 
+def reach_table(columns: list[str], rows: list[list[str]], shares: Shares, kind: str) -> str:
+    """A table of OSDs, with what they can reach where that is not their shares."""
+    head, *rest = with_reach(columns, [columns, *rows], [shares.osd_row(osd) for osd in shares.osds])
+    return table(head, rest, kind)
+
+
 def pool_rows(shares: Shares, names: Names) -> list[list[object]]:
     """Each pool as a row."""
     return [
@@ -94,6 +99,12 @@ def pool_rows(shares: Shares, names: Names) -> list[list[object]]:
         ]
         for pool in shares.pools()
     ]
+
+
+def full_lines(shares: Shares, names: Names) -> list[str]:
+    """Why pools cannot be even by weight, a line for each of them."""
+    words = [(pool, full_words(pool["full"], names)) for pool in shares.pools()]
+    return [f"{named(names, 'pools', pool['id'])}: {why}" for pool, why in words if why]
 
 
 def exception_rows(value: Map, program: Program) -> list[list[str]]:
@@ -139,23 +150,23 @@ def plan_part(whole: ClusterView, sets: dict[str, Up], program: Program) -> str:
     commands.
     """
     if whole.has_weight_set:
-        return f"<p>{html.escape(whole.no_plan(program))}</p>"
+        return f"<p>{escaped(whole.no_plan(program))}</p>"
     with ExitStack() as stack:
         lives = opened(stack, whole, program)
         found, outcome = [outage_in(lives), misplaced_in(lives, whole)], planned(lives, DEFAULT_WISH)
     plan = [line for step in outcome.steps for line in step.commands]
     said = [str(own) for own in found if own is not None] + page_words(outcome, whole.names)
-    told = "".join(f"<p>{html.escape(line)}</p>" for line in said)
+    told = "".join(f"<p>{escaped(line)}</p>" for line in said)
     if not plan:
         return f"{told}<p>Nothing is left to move.</p>"
-    return f"{told}{plan_pictures(whole, sets, outcome.steps)}<pre>{html.escape(chr(10).join(plan))}</pre>"
+    return f"{told}{plan_pictures(whole, sets, outcome.steps)}<pre>{escaped(chr(10).join(plan))}</pre>"
 
 
 def heading(value: Map, shares: Shares, title: str) -> str:
     """What the page begins with."""
     even, pools = spread_parts(shares), len(value["pools"])
     return (
-        f"<h1>{html.escape(title)}</h1><p>Epoch {value['epoch']}; {counted(len(shares.osds), 'OSD')}, "
+        f"<h1>{escaped(title)}</h1><p>Epoch {value['epoch']}; {counted(len(shares.osds), 'OSD')}, "
         f"{counted(pools, 'pool')}. "
         f"An OSD has {even['least']} to {counted(even['greatest'], 'group')}; the standard deviation from the shares "
         f"is {even['deviation']}.</p>"
@@ -172,11 +183,12 @@ def page(whole: ClusterView, sets: dict[str, Up], program: Program, title: str, 
         '<h2>Where the groups are</h2><div class="pair">',
         figure(osd_picture([shares], names, [""], disks)),
         '<div class="tree">',
-        table(["NAME", *columns], tree_rows(shares, names, disks), "sums"),
+        reach_table(["NAME", *columns], tree_rows(shares, names, disks), shares, "sums"),
         "</div></div><h2>OSDs</h2>",
-        table(["OSD", *columns], osd_rows(shares, names, disks)),
+        reach_table(["OSD", *columns], osd_rows(shares, names, disks), shares, "sorts"),
         "<h2>Pools</h2>",
         table(["POOL", "PGS", "SIZE", "RULE", "PLACES", "SHORT"], pool_rows(shares, names)),
+        "".join(f"<p>{escaped(line)}</p>" for line in full_lines(shares, names)),
         "<h2>Exceptions</h2>",
         table(["GROUP", "WITHOUT", "WITH", ""], excepted) if excepted else "<p>None.</p>",
         "<h2>The plan</h2>",
@@ -185,6 +197,6 @@ def page(whole: ClusterView, sets: dict[str, Up], program: Program, title: str, 
     return (
         '<!doctype html><html lang="en"><meta charset="utf-8"><meta name="viewport" '
         'content="width=device-width,initial-scale=1">'
-        f"<title>{html.escape(title)}</title><style>{PAGE_STYLE}</style>{''.join(parts)}"
+        f"<title>{escaped(title)}</title><style>{PAGE_STYLE}</style>{''.join(parts)}"
         f"<script>{SCRIPT}</script></html>\n"
     )

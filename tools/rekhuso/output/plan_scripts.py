@@ -5,17 +5,19 @@ run and what they move.
 from __future__ import annotations
 
 import pathlib
+from collections.abc import Mapping
 from dataclasses import dataclass
 
 from ..cluster.names import Names, named
 from ..cluster.releases import knows_upmap
-from ..faults import Fault
-from ..files import put
+from ..faults import Trouble
+from ..files import put_folder
 from ..plans.json_forms import MovingParts
 from ..plans.movement import PlaceBytes
 from ..plans.steps import PlanStep
 from ..values import SLOTS
 from ..words import counted, share_words, size_words
+from .origins import Origin
 from .tables import aligned
 
 # What is told above the commands of a plan.
@@ -92,20 +94,24 @@ def movement_tables(weights: PlaceBytes, steps: list[PlanStep], names: Names) ->
 
 @dataclass(frozen=True, **SLOTS)
 class Script:
-    """A script: its first line, what is told above its commands, what its steps weigh, and names."""
+    """A script: its first line, what is told above its commands, what its steps weigh, names, and where it comes
+    from.
+    """
 
     title: str
     notes: list[str]
     weights: PlaceBytes
     names: Names
+    origin: Origin
 
     def text(self, steps: list[PlanStep]) -> str:
         """The commands of some steps between what is told of them; the first that is refused ends the script."""
         lines = [line for step in steps for line in step.commands]
         moving = moving_words(self.weights.moving(steps))
         title = f"{self.title}: {moving}, by {counted(len(lines), 'command')}; a table stands at the end"
-        above, below = comments([title, *self.notes]), comments(movement_tables(self.weights, steps, self.names))
-        return "\n".join([*above, "set -e", *lines, *below]) + "\n"
+        above = comments([title, *self.origin.notes(), *self.notes])
+        below = comments(movement_tables(self.weights, steps, self.names))
+        return "\n".join([*above, "set -e", *self.origin.guards.lines(lines), *lines, *below]) + "\n"
 
 
 def part_file(word: str, number: int, count: int) -> str:
@@ -113,25 +119,17 @@ def part_file(word: str, number: int, count: int) -> str:
     return f"{word}-{number:0{max(3, len(str(count)))}}.sh"
 
 
-def folder_of(path: str, word: str) -> pathlib.Path:
-    """A folder for files of a name, which is made where there is none. A fault where it cannot, or where it has such
-    files, which would be run with those that come.
+def put_scripts(folder: str, word: str, files: Mapping[str, str]) -> None:
+    """Writes files of a word into a folder, all of them whole or none, and tells them; where there is none, nothing. A
+    fault where the folder has such files, which would be run with those that come.
     """
-    folder = pathlib.Path(path)
-    try:
-        folder.mkdir(parents=True, exist_ok=True)
-        there = sorted(own.name for own in folder.iterdir() if own.match(f"{word}-*.sh"))
-    except OSError as fault:
-        raise Fault(f"{path}: {fault.strerror}") from None
-    if there:
-        raise Fault(f"{folder / there[0]} is there already: name another folder")
-    return folder
+    there = sorted(path.name for path in pathlib.Path(folder).glob(f"{word}-*.sh"))
+    if there and files:
+        raise Trouble(f"{pathlib.Path(folder, there[0])} is there already: name another folder")
+    for path in put_folder(folder, files) if files else []:
+        print(path)
 
 
 def put_batches(path: str, word: str, texts: list[str]) -> None:
     """Writes each part into a file of a folder, by its number, and tells the files; where there is none, nothing."""
-    folder = folder_of(path, word) if texts else pathlib.Path(path)
-    for number, text in enumerate(texts, 1):
-        own = str(folder / part_file(word, number, len(texts)))
-        put(own, text)
-        print(own)
+    put_scripts(path, word, {part_file(word, number, len(texts)): text for number, text in enumerate(texts, 1)})

@@ -61,6 +61,8 @@ def length_words(parts: PlanParts, deviation: Fraction | None) -> str:
 
 def pool_plan_words(parts: PlanParts, deviation: Fraction | None) -> str:
     """What a pool's plan is."""
+    if parts["refused"] and parts["left_alone"]:
+        return refusal_words(parts["refused"])
     if parts["refused"]:
         return f"{refusal_words(parts['refused'])}; it has {spread_words(parts['before'])}"
     return (
@@ -116,6 +118,10 @@ def cluster_words(outcome: Outcome, names: Names) -> list[str]:
         count = len(outcome.taken_out)
         groups = "1 group is left where it is" if count == 1 else f"{count} groups are left where they are"
         found.append(f"as a whole: {groups}, or it would get less even, or an OSD fuller than the fullest")
+    if not outcome.steps:
+        found.append("as a whole: nothing to gain")
+    if outcome.rest:
+        found.append(f"as a whole: a plan over this one has {counted(outcome.rest, 'command')}")
     return [f"cluster {line}" for line in found]
 
 
@@ -142,6 +148,7 @@ def plan_lines(outcome: Outcome, names: Names, deviation: Fraction | None) -> li
         worst = sorted(told, key=lambda parts: (-parts["after"]["farthest"], parts["id"]))
         told = [own for is_refused in (False, True) for own in worst if bool(own["refused"]) is is_refused][:TOLD_POOLS]
         told += [parts for parts in worst if parts["refused"] and parts not in told][:TOLD_POOLS]
+        told += [parts for parts in worst if parts["left_alone"] and parts not in told]
         left = [parts["after"]["farthest"] for parts in worst if parts not in told]
         rest = [f"pools: {len(left)} more, at most {max(left):.2f} from a share; --json tells each"] if left else []
     return cluster_words(outcome, names) + [f"{own['name']}: {pool_plan_words(own, deviation)}" for own in told] + rest

@@ -27,4 +27,5 @@ def release_lines(found: Release) -> list[str]:
         verb, they = ("stays", "it") if len(found.stay) == 1 else ("stay", "they")
         words = f"{counted(len(found.stay), 'group')} {verb} held, as {they} would have fewer places without: "
         lines.append(words + some(found.stay))
-    return lines if found.parts or found.stay else ["nothing is held"]
+    alone = [f"{own.name}: left as it is: {own.why()}" for own in found.alone.values()]
+    return (lines if found.parts or found.stay else ["nothing is held"]) + alone

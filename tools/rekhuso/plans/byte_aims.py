@@ -56,8 +56,8 @@ class ByteAims:
                 own = held_in(self.sizes[number], live.before.ups_in(pool))
                 for osd, size in own.items():
                     held[osd] = held.get(osd, 0) + size
-                for tree in live.before.trees_for(pool):
-                    trees.append(tree)
+                trees += live.before.trees_for(pool)
+                for tree in live.goal_trees(pool):
                     whole, total = sum(size for osd, size in own.items() if osd in tree), sum(tree.values())
                     for osd, weight in tree.items():
                         want[osd] = want.get(osd, 0.0) + whole * weight / total

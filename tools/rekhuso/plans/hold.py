@@ -19,11 +19,13 @@ from ..cluster.moving import coming, has_moved, split_group
 from ..cluster.names import set_words
 from ..cluster.reasons import reasons
 from ..cluster.releases import least_client
+from ..cluster.unrest import Unrest, losing, unrest_of
 from ..faults import Fault
 from ..program.maps import Exceptions, Map, Program, entries_of, group_key, groups_in, groups_of, with_all_up
 from ..values import SLOTS
 from ..words import counted
-from .holding import Held, Holder, exceptions_of
+from .group_filter import ALL_GROUPS, GroupFilter
+from .holding import Held, Holder, NOT_CHOSEN, Way, exceptions_of
 from .json_forms import HoldParts
 from .printed import Asked, Printed
 
@@ -31,21 +33,22 @@ from .printed import Asked, Printed
 @dataclass(frozen=True, **SLOTS)
 class Sides:
     """What stands on both sides of a change: the set that each group had; how many groups each pool had; the cluster
-    behind the change, with the exceptions that it has before anything is held; and the groups whose exceptions the
-    monitor takes away on the way.
+    behind the change, with the exceptions that it has before anything is held; the groups whose exceptions the monitor
+    takes away on the way; and the cluster before the change, where it is known.
     """
 
     has: Mapping[str, list[int | None]]
     counts: Mapping[int, int]
     new: Cluster
     lost: frozenset[str]
+    old: Cluster | None
 
 
 @dataclass(frozen=True, **SLOTS)
 class Hold:
     """What holds groups: the maps behind the change, and of which groups exceptions are to stay there; the release that
     clients must have, if the dump tells it; each group that was there, the set that it would have by the change alone,
-    the commands, and those that take them back.
+    the commands, those that take them back, and the pools that are not at rest.
     """
 
     epoch: int
@@ -56,6 +59,7 @@ class Hold:
     would: Mapping[str, Places]
     commands: list[str]
     undo: list[str]
+    unrest: Mapping[int, Unrest]
 
     def printed(self, program: Program) -> Printed:
         """By what the commands are judged before they are put out."""
@@ -65,9 +69,19 @@ class Hold:
         """The groups that would move by the change alone."""
         return [own for own in self.groups if has_moved(own.was, self.would[own.group], own.is_erasure)]
 
+    @property
+    def is_idle(self) -> bool:
+        """Whether groups would move that are to be held, and none of them is."""
+        moving = [own for own in self.moving() if own.why is not NOT_CHOSEN]
+        return bool(moving) and not any(own.is_held for own in moving)
+
     def left(self) -> list[Held]:
         """The groups that cannot be held, or only in part."""
         return [own for own in self.groups if not own.is_held]
+
+    def losing(self) -> list[str]:
+        """The groups that are held and lose their exceptions again, as their pools shrink."""
+        return losing(self.unrest, [own.group for own in self.groups if own.way.pairs or own.way.explicit is not None])
 
     def told(self) -> HoldParts:
         """What is told of it as JSON, its commands aside."""
@@ -89,6 +103,8 @@ class Hold:
             ],
             "filled": {"groups": len(filled), "places": sum(len(own.filled()) for own in filled)},
             "other_primary": [own.group for own in self.groups if own.has_other_primary()],
+            "losing": self.losing(),
+            "unrest": [own.parts() for own in self.unrest.values()],
             "explicit": [own.group for own in self.groups if own.is_held and own.way.explicit is not None],
         }
 
@@ -115,7 +131,7 @@ def sides_of_change(cluster: Cluster, steps: list[Command], program: Program) ->
         new = after_command(new, step, known)
     course = aftermath(cluster, steps, program) if len(steps) > 1 else None
     lost = frozenset() if course is None else frozenset(course.gone.keys() | set(course.fewer))
-    return Sides(mapped_sets(cluster, program), counts_in(cluster), new, lost)
+    return Sides(mapped_sets(cluster, program), counts_in(cluster), new, lost, cluster)
 
 
 def check_held(new: Cluster, held: Iterable[Held], goal: Exceptions, program: Program) -> None:
@@ -157,25 +173,35 @@ def kept_apart(now: Exceptions, goal: Exceptions, lost: frozenset[str]) -> Excep
     }
 
 
-def hold_of(sides: Sides, program: Program) -> Hold:
-    """How the groups of a cluster are held behind a change. A fault where the program does not say so."""
+def ways_in(kept: Exceptions, groups: Iterable[str]) -> dict[str, Way]:
+    """The exceptions of some groups, each by itself."""
+    explicit, items = dict(entries_of(kept, "pg_upmap")), dict(entries_of(kept, "pg_upmap_items"))
+    return {group: Way(items.get(group, []), explicit.get(group)) for group in groups}
+
+
+def hold_of(sides: Sides, program: Program, chosen: GroupFilter = ALL_GROUPS) -> Hold:
+    """How the groups of a cluster, or those that are chosen, are held behind a change. A fault where the program does
+    not say so.
+    """
     new = sides.new
     groups = [group for pool in new.pools for group in groups_in(pool_of(pool))]
     there = [group for group in groups if group_key(group)[0] in sides.counts]
     maps = [map_of(part) for part in map_clusters(new)]
     raw = raw_sets(maps, set(groups), program)
-    holder, found = Holder(new, raw), []
+    kept = cleaned_at(new, program, raw)[0].kept
+    holder, found, ways = Holder(new, raw), [], ways_in(kept, there)
     for group in sorted(there, key=group_key):
         source = group if group in sides.has else split_group(group, sides.counts[group_key(group)[0]])
-        found.append(holder.hold(group, list(sides.has[source])))
+        was, is_chosen = list(sides.has[source]), chosen.lets(group, sides.has[source])
+        found.append(holder.hold(group, was) if is_chosen else holder.passed_over(group, was, ways[group]))
     goal, now = exceptions_of(found), of_groups(exceptions_in(new.osd_dump), there)
     check_held(new, found, goal, program)
-    would = mapped_sets(with_exceptions(new, cleaned_at(new, program, raw)[0].kept), program)
+    would = mapped_sets(with_exceptions(new, kept), program)
     explicit, items = new.exceptions
     undo = exception_commands(goal, of_groups({"pg_upmap": explicit, "pg_upmap_items": items}, there))
     lines = exception_commands(kept_apart(now, goal, sides.lost), goal)
     asked = Asked.NONE if new.has_weight_set else Asked.ALL
-    return Hold(new.epoch, maps, asked, least_client(new.osd_dump), found, would, lines, undo)
+    return Hold(new.epoch, maps, asked, least_client(new.osd_dump), found, would, lines, undo, unrest_of(new))
 
 
 def hold_of_change(cluster: Cluster, steps: list[Command], program: Program) -> Hold:

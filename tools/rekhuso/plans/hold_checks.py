@@ -3,13 +3,18 @@
 from __future__ import annotations
 
 import sys
-from collections.abc import Sequence
+from collections.abc import Mapping, Sequence
 
+from ..cluster.aftermath import Command, StateChange
 from ..cluster.cluster import Cluster
 from ..cluster.conversion import map_of
 from ..cluster.map_parts import map_clusters
+from ..cluster.new_crush import PoolChange
 from ..cluster.outage import outage_of
+from ..cluster.told_view import verified_view
+from ..cluster.view import ClusterView
 from ..faults import Fault
+from ..program.answers import Up
 from ..program.maps import Program, entries_of
 from ..words import counted
 from .question import sets_of_maps
@@ -38,6 +43,31 @@ def check_sides(old: Cluster, new: Cluster) -> None:
         raise Fault(f"the later side stands first: epoch {old.epoch}, then {new.epoch}")
 
 
+def counted_pools(step: Command) -> set[int]:
+    """The pools to which a command gives other numbers of groups."""
+    if isinstance(step, PoolChange):
+        return {step.pool} if step.pg_num is not None or step.pgp_num is not None else set()
+    return {entry[0] for entry in step.change.get("grow_pool", [])} if isinstance(step, StateChange) else set()
+
+
+def check_counts(cluster: Cluster, steps: Sequence[Command]) -> None:
+    """A fault where commands give pools other numbers of groups: they only set a target, to which the manager goes step
+    by step.
+    """
+    names = {pool["pool"]: pool["pool_name"] for pool in cluster.pools}
+    pools = sorted({number for step in steps for number in counted_pools(step)})
+    if pools:
+        raise Fault(
+            *(
+                f"{names.get(number, number)}: the command for its pg_num or pgp_num only sets a target, to which the "
+                "manager goes step by step: no group can be held before it is there"
+                for number in pools
+            ),
+            "nothing is held: give the command under norebalance, wait until pgp_num is pg_num, and hold then by four "
+            "dumps, those before it and those behind it",
+        )
+
+
 def moving_words(cluster: Cluster, program: Program) -> list[str]:
     """Why a cluster is not still: groups whose data is not where their sets are, or OSDs that are down."""
     found, temporary = [], len(entries_of(cluster.osd_dump, "pg_temp"))
@@ -57,6 +87,27 @@ def torn_words(groups: Sequence[str], path: str) -> list[str]:
     """That groups are not whole by a dump of groups."""
     are = f"{counted(len(groups), 'group')} {'is' if len(groups) == 1 else 'are'}"
     return [f"{path}: {are} degraded or not active: their data is not all at the sets that act"] if groups else []
+
+
+def check_torn(groups: Sequence[str], count: int, path: str, is_asked: bool) -> frozenset[str]:
+    """The groups that stay as they are, of so many, as their data is not all at their sets: that is told on standard
+    error. None do where they are asked for nonetheless. A fault where all of them are so.
+    """
+    found = torn_words(groups, path)
+    if len(groups) == count or is_asked:
+        check_still(found, is_asked, "held")
+        return frozenset()
+    for line in found:
+        print(f"{line}; they stay as they are", file=sys.stderr)
+    return frozenset(groups)
+
+
+def told_words(view: ClusterView, sets: Mapping[str, Up], path: str, is_whole: bool) -> list[str]:
+    """Why these maps are not those of a cluster, by a dump of groups that tells where these lie; none where it tells
+    nothing of that.
+    """
+    found = verified_view(view, sets, path, is_whole)
+    return [] if found is None else [f"{path}: {line}" for line in found.against()]
 
 
 def check_still(found: list[str], is_asked: bool, what: str) -> None:

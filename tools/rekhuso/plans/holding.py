@@ -24,6 +24,7 @@ from ..values import SLOTS
 from .pairs import ordered_pairs
 
 Pairs = list[list[int]]
+NOT_CHOSEN = Reason("the choice of groups", "it is not among the groups that are to be held")
 EMPTY = Reason("an empty place", "no exception leaves a place empty, or fills one")
 
 
@@ -139,9 +140,24 @@ class Holder:
         if isinstance(way, Way):
             why = None if way == NO_WAY else self.fault(group, way.explicit, way.pairs)
             if why is None:
+                way = self.as_it_is(group, way)
                 return Held(group, was, wanted, way, self.led(group, way), None, is_erasure)
             return self.in_part(group, was, wanted, why)
         return self.in_part(group, was, wanted, way)
+
+    def as_it_is(self, group: str, way: Way) -> Way:
+        """The exceptions that a group has, where they stay and lead to the set to which others would; else the others:
+        a command that changes no set is none.
+        """
+        own = Way(self.items.get(group, []), self.as_numbers(self.explicit.get(group)))
+        if own in (way, NO_WAY) or self.led(group, own) != self.led(group, way):
+            return way
+        return way if self.fault(group, self.explicit.get(group), own.pairs) is not None else own
+
+    def passed_over(self, group: str, was: list[int | None], kept: Way) -> Held:
+        """A group that is not to be held, with the exceptions that a monitor leaves it."""
+        is_erasure = self.pools[group_key(group)[0]]["kind"] == "erasure"
+        return Held(group, was, was, kept, self.led(group, kept), NOT_CHOSEN, is_erasure)
 
     def led(self, group: str, way: Way) -> list[int | None]:
         """The set to which exceptions lead."""

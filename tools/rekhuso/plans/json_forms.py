@@ -11,6 +11,7 @@ from ..cluster.json_forms import (
     OsdFillParts,
     OutageParts,
     SpreadParts,
+    UnrestParts,
     UseParts,
 )
 from ..program.maps import Entry
@@ -100,6 +101,7 @@ class PlanParts(TypedDict):
     moves: int
     groups: int
     refused: str | None
+    left_alone: bool
     moves_within: int | None
     moves_whole: int | None
     left_out: list[str]
@@ -131,6 +133,7 @@ class FlowParts(TypedDict):
     exceptions: ExceptionParts
     outage: OutageParts | None
     misplaced: MisplacedParts | None
+    unrest: list[UnrestParts]
     notes: list[str]
     idle_primaries: list[str]
     unbalanced: list[Entry]
@@ -159,13 +162,16 @@ class CountParts(TypedDict):
 
 class HoldParts(CountParts):
     """The groups that a change would move, and their places; how many of them are held; the groups that are not; how
-    many get places that they lacked; those that have another primary; and those that have explicit sets.
+    many get places that they lacked; those that have another primary; those that lose their pairs again, and the pools
+    that are not at rest; and those that have explicit sets.
     """
 
     held: int
     left: list[LeftParts]
     filled: CountParts
     other_primary: list[str]
+    losing: list[str]
+    unrest: list[UnrestParts]
     explicit: list[str]
 
 

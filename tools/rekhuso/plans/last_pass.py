@@ -87,7 +87,8 @@ class LastPass:
                 self.above[osd] = self.above.get(osd, 0) + parts
         self.full.add(aims.base)
         movable = [self.pools[number] for number in planner.order]
-        self.movable = [own for own in movable if own.blocks and not own.is_barred()]
+        free = [own for own in movable if not own.is_barred() and not own.is_left_alone()]
+        self.movable = [own for own in free if own.blocks]
         self.most, self.most_all = dict.fromkeys(self.pools, POOL), ALL_POOLS
         self.is_far, self.gauges = False, list[Gauge]()
         self.ranked: list[int] = []
@@ -120,7 +121,7 @@ class LastPass:
         before = {number: own.live.before for number, own in self.pools.items()}
         counts, shares = (
             sums_by_osd({number: own.counts_in[number] for number, own in before.items()}),
-            sums_by_osd({number: own.shares_by[number] for number, own in before.items()}),
+            sums_by_osd({number: own.live.goals[number] for number, own in self.pools.items()}),
         )
         groups, used = Gauge(Spread(counts, shares), None, False), Gauge(self.aims.spread(), None, True)
         groups.put(sums_by_osd({number: self.laid[number].counts for number in self.pools}))
@@ -170,7 +171,8 @@ class LastPass:
         if block is None or full not in shares or not leaving:
             return []
         closed, domains = self.closed(own, full), block.domains
-        there = (osd for osd in self.ranked if osd in shares and block.is_beside(full, osd))
+        closed_to = self.laid[own.number].closed
+        there = (osd for osd in self.ranked if osd in shares and osd not in closed_to and block.is_beside(full, osd))
         return [osd for osd in islice(there, few) if domains[osd] not in closed and self.full.ratio(osd) < ratio]
 
     def ways(self, full: int, few: int, is_whole: bool) -> list[Way]:
@@ -225,8 +227,8 @@ class LastPass:
         stays near its shares by that.
         """
         for own in self.movable:
-            block, shares = own.block_of(osd), self.laid[own.number].shares
-            if own.on.get(osd) and block is not None and full in shares and osd in shares:
+            block, shares, closed = own.block_of(osd), self.laid[own.number].shares, self.laid[own.number].closed
+            if own.on.get(osd) and block is not None and full in shares and osd in shares and full not in closed:
                 if block.is_beside(osd, full):
                     sizes = sorted(size for size, _ in own.by_size(osd))
                     yield own.number, sizes, self.keeps(own.number, osd, full)

@@ -29,12 +29,15 @@ WEIGHT = 10
 @dataclass(frozen=True, **SLOTS)
 class Laid:
     """A pool as it lies on OSDs: what a place of it holds (0 where nobody tells), the shares of the OSDs that may have
-    its groups, and how many groups each has.
+    its groups, how many groups each has, by how much the shares by weight are above these, in 256ths of a group, and
+    the OSDs that take none.
     """
 
     place: int
     shares: dict[int, int]
     counts: dict[int, int]
+    offset: dict[int, int]
+    closed: frozenset[int]
 
     def deviations(self, most: int | None = None) -> dict[int, int]:
         """How far each OSD is above its share or, negative, below it; at most so many parts, where these are given."""
@@ -54,6 +57,21 @@ def shares_of(trees: Iterable[Mapping[int, int]], counts: Mapping[int, int]) -> 
         groups, total = sum(count for osd, count in counts.items() if osd in weights), sum(weights.values())
         found.update({osd: groups * weight * GROUP_PARTS // total for osd, weight in weights.items()})
     return found
+
+
+def offsets(by_weight: Mapping[int, int], shares: Mapping[int, int]) -> dict[int, int]:
+    """By how much the shares by weight of OSDs are above others, in 256ths of a group, to the nearest: the program,
+    which goes by weights, is told that this is carried.
+    """
+    return {osd: (2 * (own - shares[osd]) + STEP_PARTS) // (2 * STEP_PARTS) for osd, own in by_weight.items()}
+
+
+def closed_in(reached: Mapping[int, float]) -> frozenset[int]:
+    """The OSDs that take no groups, as what they can reach of all pools is below half a place; where there are fewer
+    places than OSDs below half of the mean.
+    """
+    least = min(sum(reached.values()) / max(len(reached), 1), 1.0) / 2 - 1 / 512
+    return frozenset(osd for osd, own in reached.items() if own < least)
 
 
 def held_by_places(held: Mapping[int, int], places: Mapping[int, int]) -> dict[int, int]:
@@ -125,3 +143,37 @@ class Loads:
             nearest = (2 * parts + one) // (2 * one)
             found[osd] = -half if nearest < -half else half if nearest > half else nearest
         return found
+
+    def told(self, number: int, half: int) -> dict[int, int]:
+        """What the program is told that OSDs carry: what they do, and by how much their shares by weight are above
+        those of the plan.
+        """
+        pool, carried = self.pools[number], self.carried(number, half)
+        for osd, more in pool.offset.items():
+            carried[osd] += more
+        return with_closed(pool, carried, half) if pool.closed else carried
+
+    def above(self, number: int, half: int) -> dict[int, int]:
+        """How far each OSD counts as above its share of a pool, in parts: with what it carries."""
+        return counted_above(self.pools[number], self.told(number, half))
+
+
+def counted_above(pool: Laid, loads: Mapping[int, int]) -> dict[int, int]:
+    """How far each OSD is above its share of a pool, in parts, where it carries so much."""
+    offset = pool.offset
+    return {
+        osd: parts + (loads.get(osd, 0) - offset.get(osd, 0)) * STEP_PARTS for osd, parts in pool.deviations().items()
+    }
+
+
+def with_closed(pool: Laid, loads: dict[int, int], half: int) -> dict[int, int]:
+    """What OSDs carry, where those that take no groups carry so much more that no other differs enough for a move to
+    them, whatever goes from them.
+    """
+    offset, away = pool.offset, pool.deviations()
+    above = {osd: parts // STEP_PARTS + loads.get(osd, 0) - offset.get(osd, 0) for osd, parts in away.items()}
+    most = max(pool.counts.get(osd, 0) for osd in pool.closed)
+    least = max(above.values()) - 2 * half + 2 + 256 * most
+    for osd in pool.closed:
+        loads[osd] += max(least - above[osd], 0)
+    return loads

@@ -55,7 +55,7 @@ class Measures:
         self.counts: dict[int, dict[int, int]] = {
             number: live.before.counts_in[number] for number, live in self.lives.items()
         }
-        self.shares = {number: self.lives[number].before.shares_by[number] for number in self.pools}
+        self.shares = {number: self.lives[number].goals[number] for number in self.pools}
         self.sizes = None if aims is None else aims.groups
         self.wanted = sums_by_osd(self.shares)
         self.weights = {osd: own for live in lives for osd, own in live.before.items.items() if osd >= 0}

@@ -20,15 +20,22 @@ PairsByGroup = dict[str, list[list[int]]]
 
 
 class Deviations:
-    """How far the candidates of a pool are from their shares. An OSD with c groups and the weight w deviates by c *
-    T - N * w, where T is the sum of all weights and N that of all groups: T such parts are one group.
+    """How far the candidates of a pool are from their shares. An OSD with c groups, the weight w and x 256ths of a
+    group that it carries deviates by 256 * (c * T - N * w) + x * T, where T is the sum of all weights and N that of all
+    groups: 256 * T such parts are one group.
     """
 
-    def __init__(self, weights: dict[int, int], counts: dict[int, int]) -> None:
-        """Of candidates with these weights, and with so many groups of the pool as the counts tell, else 0."""
-        self.total = sum(weights.values())
-        groups = sum(counts.get(osd, 0) for osd in weights)
-        self.parts = {osd: counts.get(osd, 0) * self.total - groups * weight for osd, weight in weights.items()}
+    def __init__(self, weights: dict[int, int], counts: dict[int, int], loads: dict[int, int]) -> None:
+        """Of candidates with these weights, with so many groups of the pool as the counts tell, else 0, and that carry
+        so much, else nothing.
+        """
+        whole = sum(weights.values())
+        self.total, groups = 256 * whole, sum(counts.get(osd, 0) for osd in weights)
+        self.passed: frozenset[int] = frozenset()
+        self.parts = {
+            osd: 256 * (counts.get(osd, 0) * whole - groups * weight) + loads.get(osd, 0) * whole
+            for osd, weight in weights.items()
+        }
 
     def move(self, leaves: int, comes: int) -> None:
         """A group goes from one candidate to another."""
@@ -36,9 +43,11 @@ class Deviations:
         self.parts[comes] += self.total
 
     def far(self, osds: Iterable[int], most: Fraction) -> set[int]:
-        """Those of some candidates that are farther than so many groups from their shares."""
+        """Those of some candidates that are farther than so many groups from their shares, but for those that take no
+        groups.
+        """
         parts = floor(most * self.total)
-        return {osd for osd in osds if abs(self.parts[osd]) > parts}
+        return {osd for osd in osds if abs(self.parts[osd]) > parts and osd not in self.passed}
 
 
 class MoveOrder:

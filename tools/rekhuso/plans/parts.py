@@ -2,16 +2,13 @@
 
 from __future__ import annotations
 
-import sys
 from dataclasses import replace
 
 from .bounds import Measure
+from .busy import ALL
 from .measures import Measures
 from .step_order import StepOrder, has_after, parts_in_order
 from .steps import PlanStep
-
-# As much as anyone asks for.
-ALL = sys.maxsize
 
 
 def filling(measures: Measures, nearfull: float) -> Measure:

@@ -8,6 +8,7 @@ from dataclasses import dataclass, replace
 from fractions import Fraction
 
 from ..cluster.cleanup import going, reason_words
+from ..cluster.cluster import Cluster
 from ..cluster.conversion import monitor_of
 from ..cluster.disks import NEARFULL
 from ..cluster.judge import Reason, judge_of_cluster, judge_of_map
@@ -15,22 +16,29 @@ from ..cluster.misplaced import Misplaced, misplaced_of
 from ..cluster.names import named
 from ..cluster.outage import Outage, outage_of
 from ..cluster.pool_data import Data
+from ..cluster.unrest import unrest_of
 from ..cluster.view import ClusterView
 from ..faults import Fault
-from ..program.maps import Program, group_key
+from ..program.maps import Program, entries_of, group_key
 from ..values import SLOTS
+from .again import after, moved_data, steps_between
 from .bounds import Measure
+from .busy import ALL, MostBusy, NO_LIMIT
 from .byte_aims import ByteAims
 from .byte_rounds import Passed, planned_by_data
+from .cycles import without_cycles
+from .gains import command_count, gains
 from .hindrances import hindrances_by_mending
 from .json_forms import ClusterParts, DataParts, HindranceParts, PlanParts
 from .measures import Measures, counts_after, pool_spread
 from .mend import mended
+from .pair_plans import PairPlanner
 from .pairs import settled
-from .parts import ALL, measure_of_steps, order_of_steps, ordered_parts
+from .parts import measure_of_steps, order_of_steps, ordered_parts
 from .pool_plans import PoolPlan, pool_plans
-from .rounds import Live, Planner, barred_words, left_out
+from .rounds import Live, MOST_MOVES, Planner, left_out
 from .spare import spared
+from .step_order import limited
 from .steps import PlanStep, appended_pairs, batches, in_old_order, steps_by_pool, steps_of
 
 # How many groups an OSD may be from its share after a plan, where nothing else is asked for.
@@ -41,7 +49,8 @@ DEVIATION = Fraction(1)
 class Wish:
     """What plans are asked for: the pools that are named (all of several groups where none is), how near its shares a
     plan brings OSDs, how many commands or moves there are at most, how many commands stand in a part, whether each pool
-    is planned by itself, whether the plan is for room alone, what the pools hold, and how full a disk may get.
+    is planned by itself, whether the plan is for room alone, whether it goes by weights, whatever the rules can give,
+    what the pools hold, how full a disk may get, and in how many moves of a part OSDs take part at most.
     """
 
     named: frozenset[int]
@@ -50,16 +59,20 @@ class Wish:
     batch: int
     is_alone: bool
     is_room: bool
+    is_by_weight: bool
     data: Data | None
     nearfull: float
+    busy: MostBusy = NO_LIMIT
 
     def half(self) -> int:
         """Half of what two OSDs must differ by for a move, in 256ths of a group."""
         return round(256 * (DEVIATION if self.deviation is None else self.deviation))
 
 
+# How many plans are made, one over the other, before the commands of a further one are told.
+MOST_PLANS = 4
 # The plan of a whole cluster, where nothing else is asked for.
-DEFAULT_WISH = Wish(frozenset(), None, ALL, ALL, False, False, None, NEARFULL)
+DEFAULT_WISH = Wish(frozenset(), None, ALL, ALL, False, False, False, None, NEARFULL)
 
 
 @dataclass(frozen=True, **SLOTS)
@@ -67,7 +80,8 @@ class Outcome:
     """What plans are: the steps in the parts in which they are taken, the groups whose steps were taken out for the
     sake of the cluster, what is told of each pool and of the cluster before and after, the pool with most data, if it
     is known, the OSDs that would get nearfull by steps that are left for their sake, each with how many, what is told
-    of the data, and by what OSDs are full on the way, where the steps stand in an order.
+    of the data, by what OSDs are full on the way, where the steps stand in an order, and how many commands a further
+    plan has over this one.
     """
 
     parts: list[list[PlanStep]]
@@ -79,6 +93,7 @@ class Outcome:
     stopped: dict[int, int]
     data: DataParts | None
     measure: Measure | None
+    rest: int = 0
 
     @property
     def steps(self) -> list[PlanStep]:
@@ -89,8 +104,8 @@ class Outcome:
 @dataclass(frozen=True, **SLOTS)
 class PlannedSteps:
     """What has been planned: why a pool has no plan, the groups that are left out, each with the reason, the plans of
-    pools by themselves, the steps, the groups whose steps come first, and what keeps OSDs far above what they are to
-    have.
+    pools by themselves, the steps, the groups whose steps come first, what keeps OSDs far above what they are to have,
+    and whether all pools are at rest by the steps.
     """
 
     refusals: dict[int, str]
@@ -99,6 +114,7 @@ class PlannedSteps:
     steps: list[PlanStep]
     first: frozenset[str]
     stays: dict[int, list[HindranceParts]]
+    is_at_rest: bool
 
 
 def alone_steps(lives: list[Live], wanted: list[int], wish: Wish) -> PlannedSteps:
@@ -107,7 +123,7 @@ def alone_steps(lives: list[Live], wanted: list[int], wish: Wish) -> PlannedStep
     gone: dict[str, Reason] = {}
     steps: list[PlanStep] = []
     for live in lives:
-        own = {number: PoolPlan(0, barred_words(why), None, None) for number, why in live.barred.items()}
+        own = {number: PoolPlan(0, why, None, None) for number, why in live.refusals().items()}
         free = [pool for number, pool in live.pools.items() if number in wanted and number not in own]
         own.update(pool_plans(live, free, wish.deviation, wish.most))
         left = left_out(live, live.changed())
@@ -123,7 +139,7 @@ def alone_steps(lives: list[Live], wanted: list[int], wish: Wish) -> PlannedStep
         gone.update(left)
         steps += kept
     refusals = {number: plan.refusal for number, plan in plans.items() if plan.refusal}
-    return PlannedSteps(refusals, gone, plans, steps, frozenset(), {})
+    return PlannedSteps(refusals, gone, plans, steps, frozenset(), {}, False)
 
 
 def cluster_steps(
@@ -131,6 +147,7 @@ def cluster_steps(
 ) -> PlannedSteps:
     """Plans pools for the sake of the whole cluster, by data where it is known what all of them hold."""
     planner, passed = Planner(lives, wanted, wish.data, wish.half()), Passed([], [], {})
+    planner.by_pairs = PairPlanner()
     if aims is not None and aims.is_whole:
         passed = planned_by_data(planner, aims, wish.is_room, wish.most if wish.most < ALL else None, tell)
     else:
@@ -142,7 +159,8 @@ def cluster_steps(
         kept, lost = steps_in(live)
         left.update(lost)
         steps += kept
-    return PlannedSteps(planner.refusals, left, {}, steps, frozenset(passed.first), passed.stays)
+    is_at_rest = planner.is_at_rest and not (left or passed.moved or any(live.has_most for live in lives))
+    return PlannedSteps(planner.refusals, left, {}, steps, frozenset(passed.first), passed.stays, is_at_rest)
 
 
 def steps_in(live: Live) -> tuple[list[PlanStep], dict[str, Reason]]:
@@ -150,6 +168,8 @@ def steps_in(live: Live) -> tuple[list[PlanStep], dict[str, Reason]]:
     monitor would take away what it gives them, each with the reason. Afterwards no other session is like it.
     """
     ups, new = live.session.ups(live.changed()), live.session.dump()
+    items = entries_of(new, "pg_upmap_items")
+    live.has_most = any(len(pairs) >= live.pools[group_key(group)[0]]["size"] for group, pairs in items)
     new = in_old_order(live.value, settled(live.session, new))
     steps = steps_of(live.value, live.kept, new, live.before.ups, ups)
     lost = going(live.judge, live.session, new, [step.group for step in steps])
@@ -164,16 +184,26 @@ def wanted_of(lives: list[Live], wish: Wish) -> list[int]:
     return sorted(number for number, pool in pools.items() if pool["pg_num"] > 1)
 
 
-def opened(stack: ExitStack, whole: ClusterView, program: Program) -> list[Live]:
-    """The maps of a cluster with a session each, which end with the stack. A fault where a weight set is in force."""
+def leave_alone(lives: list[Live], cluster: Cluster, is_anyway: bool) -> None:
+    """Leaves the pools of a cluster alone that are not at rest, unless they are planned nonetheless."""
+    for live in lives if not is_anyway else ():
+        live.leave_alone({number: own.why() for number, own in unrest_of(cluster).items()})
+
+
+def opened(stack: ExitStack, whole: ClusterView, program: Program, is_anyway: bool = False) -> list[Live]:
+    """The maps of a cluster with a session each, which end with the stack, where pools that are not at rest are left
+    alone unless they are planned nonetheless. A fault where a weight set is in force.
+    """
     if whole.has_weight_set:
         raise Fault(whole.no_plan(program))
     sessions = [stack.enter_context(monitor_of(value, program, True)) for value in whole.maps]
     if whole.found:
-        return [
+        lives = [
             Live(value, part.kept_exceptions(), whole.names, judge_of_cluster(part), session)
             for value, part, session in zip(whole.maps, whole.found.parts, sessions)
         ]
+        leave_alone(lives, whole.found.cluster, is_anyway)
+        return lives
     return [
         Live(value, value, whole.names, judge_of_map(value, whole.names), session)
         for value, session in zip(whole.maps, sessions)
@@ -228,23 +258,87 @@ def outcome_of(
     return Outcome(parts, taken_out, pools, *ends, measures.largest(), stopped, data, None)
 
 
-def planned(lives: list[Live], wish: Wish, tell: Callable[[str], None] = silent) -> Outcome:
-    """Plans pools of a cluster, and tells how far it is meanwhile."""
-    wanted = wanted_of(lives, wish)
+@dataclass(frozen=True, **SLOTS)
+class Pass:
+    """One plan over a cluster as it is: what has been planned, the steps that are kept, those that were taken out for
+    the sake of the cluster, and by what all is measured.
+    """
+
+    made: PlannedSteps
+    steps: list[PlanStep]
+    taken_out: list[str]
+    measures: Measures
+
+    def is_last(self) -> bool:
+        """Whether a plan over what this one makes is empty, as far as is known without making it."""
+        return not self.steps or self.made.is_at_rest and len(self.steps) == len(self.made.steps)
+
+
+def passed_over(lives: list[Live], wanted: list[int], wish: Wish, tell: Callable[[str], None]) -> Pass:
+    """Plans pools of a cluster once; nothing where nothing is gained."""
     aims = None if wish.data is None else ByteAims(lives, wish.data)
     made = alone_steps(lives, wanted, wish) if wish.is_alone else cluster_steps(lives, wanted, wish, aims, tell)
     measures = Measures(lives, wish.data, aims)
     kept = kept_steps(measures, made, wish)
-    if wish.is_alone:
-        return outcome_of(measures, wanted, made, batches(kept, wish.batch), without(made.steps, kept), {})
     taken_out = without(made.steps, kept)
-    if aims is not None and aims.is_whole:
+    if aims is not None and aims.is_whole and not wish.is_alone:
         made = replace(made, stays={**hindrances_by_mending(lives, aims, made.steps, kept), **made.stays})
         kept = kept if wish.is_room else spared(measures, kept, made.first, wish.half() / 256)
-    order = order_of_steps(measures, kept, made.first, wish.nearfull)
+    kept = without_cycles(measures, kept)
+    return Pass(made, kept if gains(measures, kept, wish.is_alone) else [], taken_out, measures)
+
+
+def course_of(
+    lives: list[Live], wanted: list[int], wish: Wish, tell: Callable[[str], None]
+) -> tuple[list[Pass], list[PlanStep], int]:
+    """Plans pools of a cluster until a plan over what has been made is empty: the plans, what all of them make, and how
+    many commands a further one has that is not made.
+    """
+    first, found = lives, [passed_over(lives, wanted, wish, tell)]
+    is_cut = (wish.is_alone or wish.data is not None) and wish.most < (MOST_MOVES if wish.is_alone else ALL)
+    while not (is_cut or found[-1].is_last()) and len(found) <= MOST_PLANS:
+        lives = [after(live, found[-1].steps) for live in lives]
+        if wish.data is not None:
+            wish = replace(wish, data=moved_data(wish.data, found[-1].measures.sizes, found[-1].steps))
+        found.append(passed_over(lives, wanted, wish, tell))
+    rest = command_count(found[-1].steps) if len(found) > MOST_PLANS else 0
+    applied = [own for own in found if own.steps][: MOST_PLANS if rest else None]
+    if len(applied) < 2:
+        return found[:1], found[0].steps, rest
+    if found[-1] is applied[-1]:
+        lives = [after(live, found[-1].steps) for live in lives]
+    return applied, [step for one, other in zip(first, lives) for step in steps_between(one, other)], rest
+
+
+def as_one(passes: list[Pass], steps: list[PlanStep]) -> PlannedSteps:
+    """What several plans have planned, one over the other, as one plan of these steps."""
+    made, moved = passes[0].made, {step.group for step in steps}
+    plans = {
+        number: replace(own, moves=sum(one.made.plans[number].moves for one in passes))
+        for number, own in made.plans.items()
+    }
+    left = {group: why for one in passes for group, why in one.made.left.items() if group not in moved}
+    first = frozenset().union(*(one.made.first for one in passes)) & moved
+    return PlannedSteps(made.refusals, left, plans, steps, first, passes[-1].made.stays, True)
+
+
+def planned(lives: list[Live], wish: Wish, tell: Callable[[str], None] = silent) -> Outcome:
+    """Plans pools of a cluster, and tells how far it is meanwhile."""
+    wanted = wanted_of(lives, wish)
+    for live in lives:
+        live.is_by_weight = wish.is_by_weight
+    passes, steps, rest = course_of(lives, wanted, wish, tell)
+    measures, steps = passes[0].measures, sorted(steps, key=lambda step: group_key(step.group))
+    made = as_one(passes, steps)
+    taken_out = sorted({*passes[-1].taken_out} - {step.group for step in steps}, key=group_key)
+    if wish.is_alone:
+        alone = [own for part in batches(steps, wish.batch) for own in limited(part, wish.busy)]
+        return outcome_of(measures, wanted, made, alone, taken_out, {})
+    order = order_of_steps(measures, steps, made.first, wish.nearfull)
+    order.limit(wish.busy)
     parts = ordered_parts(order, wish.most, wish.batch)
     found = outcome_of(measures, wanted, made, parts, taken_out, order.stopped())
-    return replace(found, measure=measure_of_steps(measures, kept, wish.nearfull))
+    return replace(found, rest=rest, measure=measure_of_steps(measures, steps, wish.nearfull))
 
 
 def pool_parts(
@@ -259,6 +353,7 @@ def pool_parts(
         "moves": sum(len(step.places_come()) for step in steps) if plan is None else plan.moves,
         "groups": sum(map(PlanStep.is_moving, steps)),
         "refused": made.refusals.get(number),
+        "left_alone": number in live.alone,
         "moves_within": None if plan is None else plan.wanted,
         "moves_whole": None if plan is None else plan.whole,
         "left_out": list(left),

@@ -63,6 +63,10 @@ class PoolPlaces:
         """Whether a monitor takes every exception of the pool away."""
         return self.number in self.live.barred
 
+    def is_left_alone(self) -> bool:
+        """Whether no group of the pool is moved, whatever it holds."""
+        return self.number in self.live.alone
+
     def may_go(self, group: int, leaves: int, comes: int) -> bool:
         """Whether a group may go from an OSD to another: by the rule, and as it may have one more pair."""
         block = self.block_of(leaves)

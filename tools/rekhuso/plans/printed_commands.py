@@ -9,6 +9,7 @@ from dataclasses import dataclass
 from ..faults import Fault
 from ..program.maps import Change, Entry
 from ..values import SLOTS
+from .guards import is_guard
 
 FORM = re.compile(r"ceph osd (rm-)?(pg-upmap|pg-upmap-items) ([0-9]+\.[0-9a-f]+)((?: [0-9]+)*)")
 # The key of a change for each word.
@@ -48,9 +49,10 @@ def command_in(line: str) -> PrintedCommand:
 
 
 def commands_in(text: str, others: Iterable[str] = ()) -> list[PrintedCommand]:
-    """The commands of a script in their order. A fault for a line that is neither one nor a comment, nor one of some
-    others that the script may have.
+    """The commands of a script in their order. A fault for a line that is neither one nor a comment, nor a guard by its
+    exact form, nor one of some others that the script may have.
     """
     passed = {"", "set -e", *others}
     lines = [line for line in text.splitlines() if line not in passed and not line.startswith("#")]
+    lines = [line for line in lines if not is_guard(line)]
     return list(map(command_in, lines))

@@ -9,7 +9,7 @@ from dataclasses import dataclass
 from ..cluster.affinity import affinities_of, all_with_affinity, applied_words
 from ..cluster.aftermath import Aftermath, Arrival, Command, NewMap, StateChange, aftermath, exceptions_in
 from ..cluster.cleanup import excepted_groups, reason_words
-from ..cluster.conversion import map_of, monitor_of
+from ..cluster.conversion import monitor_of
 from ..cluster.difference import moved_parts
 from ..cluster.flows import fewer_in, flows, fullest_by_count, fullest_by_share, short_in
 from ..cluster.map_dumps import cluster_of_map
@@ -17,6 +17,7 @@ from ..cluster.misplaced import check_misplaced, misplaced_of
 from ..cluster.moving import erasure_pools, with_split_groups
 from ..cluster.outage import check_outage, outage_of
 from ..cluster.primaries import NamedPrimaries, rested_words
+from ..cluster.unrest import told_unrest, unrest_lines
 from ..cluster.view import ClusterView, view_of_cluster
 from ..faults import Fault
 from ..program.answers import Up
@@ -66,7 +67,7 @@ def balanced_sets(whole: ClusterView, program: Program, balance: Balance) -> Clu
     amid an outage unless it is balanced anyway.
     """
     with ExitStack() as stack:
-        lives = opened(stack, whole, program)
+        lives = opened(stack, whole, program, balance.is_anyway)
         check_outage(outage_in(lives), balance.is_anyway)
         check_misplaced(misplaced_in(lives, whole), balance.is_anyway)
         outcome = planned(lives, DEFAULT_WISH)
@@ -138,8 +139,10 @@ class Question:
         self.misplaced = misplaced_of(self.cluster.osd_dump, self.before)
 
     def warnings(self) -> list[str]:
-        """What is told before anything else: an outage, and that the cluster moves already."""
-        return [str(found) for found in (self.outage, self.misplaced) if found is not None]
+        """What is told before anything else: an outage, that the cluster moves already, and what becomes of pools that
+        are not at rest.
+        """
+        return [str(found) for found in (self.outage, self.misplaced) if found is not None] + unrest_lines(self.cluster)
 
     def as_in_ceph(self, whole: ClusterView, answers: ClusterSets) -> dict[str, Up]:
         """The sets of a cluster with the primaries that are named, and those that affinities choose."""
@@ -203,6 +206,7 @@ class Question:
             },
             "outage": None if self.outage is None else {"down": self.outage.down, "short": len(self.outage.short)},
             "misplaced": None if self.misplaced is None else self.misplaced.parts(),
+            "unrest": told_unrest(self.cluster),
             "notes": self.notes(course) + ([rested_words(rested)] if rested else []),
             "idle_primaries": rested,
             "unbalanced": answers.refused,

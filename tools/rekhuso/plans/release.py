@@ -12,12 +12,14 @@ from dataclasses import dataclass
 from typing import Literal
 
 from ..cluster.aftermath import cleaned_at, exceptions_in, with_exceptions
+from ..cluster.cleanup import excepted_groups
 from ..cluster.cluster import Cluster
 from ..cluster.conversion import pool_of
 from ..cluster.difference import exception_commands
 from ..cluster.evenness import Spread
-from ..cluster.moving import erasure_pools
+from ..cluster.moving import erasure_pools, leaving
 from ..cluster.names import set_words
+from ..cluster.unrest import Unrest, unrest_of
 from ..cluster.view import ClusterView, view_of_cluster
 from ..faults import Fault
 from ..program.answers import Up
@@ -25,8 +27,9 @@ from ..program.maps import Entry, Exceptions, Pool, Program, entries_of, group_k
 from ..values import SLOTS
 from ..words import counted
 from .bounds import Measure
+from .busy import PartSize
+from .group_filter import ALL_GROUPS, GroupFilter
 from .json_forms import PeakParts
-from .parts import ALL
 from .plan import DEFAULT_WISH, opened, planned
 from .printed import Asked, Printed
 from .question import sets_of_maps
@@ -38,7 +41,7 @@ from .steps import PlanStep, by_group
 class Release:
     """How held groups are let go: the epoch, the pools, the groups that stay held as they would get fewer places, the
     steps in their parts, how many groups the fullest OSD has before all of them, while each of them moves, and at the
-    end; and by what the commands are judged, in parts of so many.
+    end; by what the commands are judged, in parts of so many; and the pools that are left alone.
     """
 
     epoch: int
@@ -50,11 +53,29 @@ class Release:
     after: int
     printed: Printed
     lengths: list[int]
+    alone: Mapping[int, Unrest]
 
     @property
     def steps(self) -> list[PlanStep]:
         """All steps in their order."""
         return [step for part in self.parts for step in part]
+
+
+@dataclass(frozen=True, **SLOTS)
+class Goal:
+    """To where held groups are let go: to what the rules give beside exceptions that are kept, or on to the plan for
+    that. Then pools that are not at rest are left alone, unless they are planned nonetheless. And which groups are let
+    go, where these are not all.
+    """
+
+    kept: Exceptions
+    is_planned: bool
+    is_anyway: bool
+    chosen: GroupFilter = ALL_GROUPS
+
+    def alone(self, cluster: Cluster) -> dict[int, Unrest]:
+        """The pools of a cluster that are left alone."""
+        return unrest_of(cluster) if self.is_planned and not self.is_anyway else {}
 
 
 def exceptions_after(now: Exceptions, lines: Iterable[str]) -> Exceptions:
@@ -74,11 +95,11 @@ def exceptions_after(now: Exceptions, lines: Iterable[str]) -> Exceptions:
 
 
 def planned_end(
-    view: ClusterView, plain: Exceptions, program: Program
+    view: ClusterView, plain: Exceptions, program: Program, is_anyway: bool
 ) -> tuple[Exceptions, dict[str, list[int | None]]]:
     """The exceptions to which the plan of a cluster leads, and the sets of the groups that it moves."""
     with ExitStack() as stack:
-        outcome = planned(opened(stack, view, program), DEFAULT_WISH)
+        outcome = planned(opened(stack, view, program, is_anyway), DEFAULT_WISH)
     lines = [line for step in outcome.steps for line in step.commands]
     return exceptions_after(plain, lines), {step.group: step.now for step in outcome.steps}
 
@@ -145,21 +166,38 @@ def with_those_of(then: Exceptions, now: Exceptions, groups: Container[str]) -> 
     return {"pg_upmap": entries("pg_upmap"), "pg_upmap_items": entries("pg_upmap_items")}
 
 
-def release_of(cluster: Cluster, kept: Exceptions, is_planned: bool, most: int, program: Program) -> Release:
-    """How the held groups of a cluster are let go, but for exceptions that are kept: to what these and the rules give,
-    or to the plan for that. Groups that would get fewer places stay held. A fault where the program says that a group
-    would end elsewhere.
+def held_on(now: Exceptions, stay: list[str], alone: Container[int]) -> set[str]:
+    """The groups that keep the exceptions that they have: those that stay held, and those of pools left alone."""
+    return {*stay, *(group for group in excepted_groups(now) if group_key(group)[0] in alone)}
+
+
+def passed_over(chosen: GroupFilter, was: Mapping[str, Up], to: Mapping[str, Up]) -> set[str]:
+    """The groups that are not let go."""
+    return {
+        group
+        for group, up in was.items()
+        if not chosen.lets(group, up.places) or not chosen.lets_leave(leaving(up.places, to[group].places, False))
+    }
+
+
+def release_of(cluster: Cluster, goal: Goal, size: PartSize, program: Program) -> Release:
+    """How the held groups of a cluster are let go. Groups that would get fewer places stay held. A fault where the
+    program says that a group would end elsewhere.
     """
-    now, plain = exceptions_in(cluster.osd_dump), with_exceptions(cluster, kept)
+    now, plain, alone = exceptions_in(cluster.osd_dump), with_exceptions(cluster, goal.kept), goal.alone(cluster)
     then = cleaned_at(plain, program)[0].kept
     stay = shorter_groups(cluster, with_exceptions(cluster, then), program)
-    then = with_those_of(then, now, set(stay)) if stay else then
+    then = with_those_of(then, now, held_on(now, stay, alone)) if stay or alone else then
     plain, wanted = with_exceptions(cluster, then), dict[str, list["int | None"]]()
-    if is_planned:
-        then, wanted = planned_end(view_of_cluster(plain), then, program)
+    if goal.is_planned:
+        then, wanted = planned_end(view_of_cluster(plain), then, program, goal.is_anyway)
     before, end = view_of_cluster(cluster), view_of_cluster(with_exceptions(cluster, then))
     was, to = sets_of_maps(before.maps, program), sets_of_maps(end.maps, program)
     check_end(to, wanted)
+    if goal.chosen.is_any:
+        then = with_those_of(then, now, passed_over(goal.chosen, was, to))
+        end = view_of_cluster(with_exceptions(cluster, then))
+        to = sets_of_maps(end.maps, program)
     pools = [pool_of(pool) for pool in cluster.pools]
     explicit, items = cluster.exceptions
     back, erasure = by_group(exception_commands(then, {"pg_upmap": explicit, "pg_upmap_items": items})), erasure_pools(
@@ -170,13 +208,15 @@ def release_of(cluster: Cluster, kept: Exceptions, is_planned: bool, most: int, 
         for group, lines in by_group(exception_commands(now, then)).items()
         if group in was
     ]
-    has, share = counts_of(was), end.shares(to).wanted
-    parts = parts_in_order(StepOrder(Spread(dict(has), share), None, steps), most, False)
+    has, share = counts_of(was), end.shares(to).reached
+    order = StepOrder(Spread(dict(has), share), None, steps)
+    order.limit(size.busy)
+    parts = parts_in_order(order, size.commands, False)
     lengths = [sum(len(step.commands) for step in part) for part in parts]
-    if most == ALL and parts:
+    if size.is_whole and parts:
         parts = [[step for part in parts for step in part]]
     after, down = counts_of(to), frozenset(osd for osd, own in cluster.osds.items() if not own["up"])
     asked = Asked.NONE if cluster.has_weight_set else Asked.NAMED
     sets, measure = {step.group: step.now for step in steps}, Measure(Spread({}, share), None, dict(after), {})
     peaks, printed = peaks_of(Counter(has), parts), Printed(before.maps, program, sets, measure, down, asked)
-    return Release(cluster.epoch, pools, stay, parts, peaks, most_of(has), most_of(after), printed, lengths)
+    return Release(cluster.epoch, pools, stay, parts, peaks, most_of(has), most_of(after), printed, lengths, alone)

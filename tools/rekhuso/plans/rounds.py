@@ -1,15 +1,17 @@
-"""The plan of a whole cluster: its pools one after the other, each for the sake of all, in two rounds.
+"""The plan of a whole cluster: its pools one after the other, each for the sake of all, in rounds.
 
-In the first round a pool whose plan is still to come counts for the others with no more than its plan will leave. In
-the second round each pool is planned again from where the first has led, as what it carries from the others is known
-by then.
+Where no pool has a move beside the others as they lie, there is no plan. Else, in the first round, a pool that may have
+moves still to come counts for the others with no more than its plan will leave. In each further round the pools are
+planned again from where the one before has led, as what they carry from the others is known by then, until none has a
+move.
 """
 
 from __future__ import annotations
 
 from collections import Counter
-from collections.abc import Callable, Iterable, Iterator
+from collections.abc import Callable, Iterable, Iterator, Mapping, Sequence
 from contextlib import contextmanager
+from typing import Protocol
 
 from ..cluster.cleanup import barred, group_fault, pool_of_group
 from ..cluster.judge import Judge, Reason, present_of
@@ -19,13 +21,20 @@ from ..cluster.shares import Shares
 from ..faults import Refused
 from ..program.maps import Exceptions, Map, Pool, entries_of, groups_in, groups_of
 from ..program.session import Session
-from .loads import Laid, Loads, STEP_PARTS, held_by_places, order_of, shares_of
+from .loads import GROUP_PARTS, Laid, Loads, STEP_PARTS, closed_in, held_by_places, offsets, order_of, shares_of
 from .steps import changed_groups
 
 # The most moves of one plan of the program.
 MOST_MOVES = 1024
-# How many rounds there are, and how many at most where groups are left out.
-ROUNDS, MOST_ROUNDS = 2, 5
+# How many rounds there are at most, and how many moves are tried from the fullest OSD.
+MOST_ROUNDS, TRIED = 12, 64
+# Up to how many pools, times the OSDs, the fullest OSD is lowered once all pools are at rest.
+SMALL_CLUSTER = 1 << 14
+# Why a pool of several blocks gets no plan, as the program says it.
+REFUSED_BLOCKS = "29 BalanceRule"
+# What two OSDs count as having, and by how much two must differ, so that a plan is one move from the first to the
+# second; in 256ths of a group.
+VAST, GAP = 1 << 28, 3 << 27
 
 
 class Live:
@@ -41,11 +50,31 @@ class Live:
         self.totals = dict(self.before.counts)
         self.present = present_of(value)
         self.barred = barred(judge, value, self.before.sets)
+        self.is_by_weight, self.has_most = False, False
+        self.closed = closed_in(self.before.reached)
+        self.alone: dict[int, str] = {}
+
+    def leave_alone(self, pools: Mapping[int, str]) -> None:
+        """Leaves some pools alone, each for its reason: no plan moves a group of theirs."""
+        self.alone = {number: why for number, why in pools.items() if number in self.pools}
+
+    def refusals(self) -> dict[int, str]:
+        """The pools of which nothing is planned before anything is tried, each with why."""
+        return {**{number: barred_words(why) for number, why in self.barred.items()}, **self.alone}
 
     def has_one_block(self, pool: Pool) -> bool:
         """Whether the rule of a pool has one block, as it must have to be planned."""
         steps = next(rule["steps"] for rule in self.value["rules"] if rule["id"] == pool["rule"])
         return [step[0] for step in steps].count("emit") == 1
+
+    def goal_trees(self, pool: Pool) -> list[dict[int, int]]:
+        """By what the OSDs of a pool share its places, tree by tree: what its rule can give them, or their weights."""
+        return self.before.trees_for(pool) if self.is_by_weight else self.before.reach_trees(pool)
+
+    @property
+    def goals(self) -> dict[int, dict[int, float]]:
+        """How many places of each pool the OSDs are to have."""
+        return self.before.shares_by if self.is_by_weight else self.before.reach_by
 
     def changed(self) -> list[str]:
         """The groups that have other pairs now."""
@@ -128,6 +157,25 @@ def pools_of(groups: Iterable[str]) -> set[int]:
     return {int(group.split(".")[0]) for group in groups}
 
 
+def laid_of(live: Live, pool: Pool, place: int, counts: dict[int, int]) -> Laid:
+    """A pool as it lies, whose places each hold so much."""
+    trees, goals = live.before.trees_for(pool), live.goal_trees(pool)
+    shares = shares_of(goals, counts)
+    offset = {} if goals == trees else offsets(shares_of(trees, counts), shares)
+    closed = frozenset[int]() if live.is_by_weight else live.closed.intersection(shares)
+    return Laid(place, shares, counts, offset, closed)
+
+
+class ByPairs(Protocol):
+    """What plans pools of several blocks by pairs."""
+
+    def blocks(self, live: Live, pool: Pool) -> Sequence[object]:
+        """The blocks by which a pool can be planned so."""
+
+    def plan(self, live: Live, pool: Pool, above: dict[int, int], apart: int, most: int) -> int:
+        """Makes at most so many moves between OSDs that differ by more than so many parts of a group."""
+
+
 class Planner:
     """Plans pools of a cluster, one after the other."""
 
@@ -144,27 +192,52 @@ class Planner:
         self.laid = {}
         for number, live in self.live_of.items():
             counts = dict(live.before.counts_in[number])
-            shares = shares_of(live.before.trees_for(pools[number]), counts)
-            self.laid[number] = Laid(of_place[number], shares, counts)
+            self.laid[number] = laid_of(live, pools[number], of_place[number], counts)
         self.order = order_of(wanted, places, held)
-        self.refusals = {
-            number: barred_words(why) for live in lives for number, why in live.barred.items() if number in wanted
-        }
-        self.loads: Loads  # begins with `play`
+        self.refusals = {number: why for live in lives for number, why in live.refusals().items() if number in wanted}
+        self.loads = self.laid_on([])
+        self.is_at_rest = False
+        self.by_pairs: ByPairs | None = None
         self.left: dict[str, Reason] = {}
         self.hopeless: set[int] = set()
 
-    def begun(self) -> Loads:
-        """What the pools lay on OSDs before any is planned."""
-        own = {number: live.pools[number] for number, live in self.live_of.items()}
-        later = [number for number in self.order if self.live_of[number].has_one_block(own[number])]
-        return Loads(self.laid, [number for number in later if number not in self.refusals], self.half * STEP_PARTS)
+    def laid_on(self, later: Iterable[int]) -> Loads:
+        """What the pools lay on OSDs, of which some are still to be planned."""
+        return Loads(self.laid, later, self.half * STEP_PARTS)
 
-    def plan(self, number: int) -> int:
+    def may_move(self, number: int) -> bool:
+        """Whether two OSDs differ enough for a move of a pool, beside what the others lay on them."""
+        live = self.live_of[number]
+        if number in self.refusals or not (live.has_one_block(live.pools[number]) or self.goes_by_pairs(number)):
+            return False
+        above = self.loads.above(number, self.half).values()
+        return max(above, default=0) - min(above, default=0) > (2 * self.half - 2) * STEP_PARTS
+
+    def goes_by_pairs(self, number: int) -> bool:
+        """Whether the rule of a pool has several blocks by which its plan can be made."""
+        live = self.live_of[number]
+        return self.by_pairs is not None and bool(self.by_pairs.blocks(live, live.pools[number]))
+
+    def begun(self) -> set[int]:
+        """The pools that are not at rest, once the first move that there is has been made: those that may have one.
+        None where no pool has any.
+        """
+        self.loads = self.laid_on([])
+        for pool in self.order:
+            if self.may_move(pool) and self.plan(pool, 1):
+                return {other for other in self.order if self.may_move(other)}
+        return set()
+
+    def plan(self, number: int, most: int = MOST_MOVES) -> int:
         """Plans a pool from where it is, and tells how many moves were made; the program may refuse it."""
         live, moves = self.live_of[number], 0
         try:
-            moves = live.session.balance(number, MOST_MOVES, 2 * self.half, self.loads.carried(number, self.half)).moves
+            if self.by_pairs is not None and self.goes_by_pairs(number):
+                above, apart = self.loads.above(number, self.half), 2 * self.half * STEP_PARTS
+                moves = self.by_pairs.plan(live, live.pools[number], above, apart, most)
+            else:
+                loads = self.loads.told(number, self.half)
+                moves = live.session.balance(number, most, 2 * self.half, loads).moves
         except Refused as refused:
             self.refusals[number] = f"{refused.number} {refused.name}"
         self.loads.put(number, live.moved(live.pools[number], self.laid[number]) if moves else {})
@@ -206,19 +279,68 @@ class Planner:
         self.loads.put(int(group.split(".")[0]), moved)
 
     def play(self, tell: Callable[[str], None]) -> None:
-        """Plans all pools in two rounds, and tells how far it is. There are more for pools of which groups have been
-        left out.
+        """Plans all pools in rounds until no pool has a move, and tells how far it is. Nothing is planned where all are
+        at rest.
         """
-        self.loads = self.begun()
-        again: set[int] = set(self.order)
+        for number, live in self.live_of.items():
+            if number in self.order and not live.has_one_block(live.pools[number]) and not self.goes_by_pairs(number):
+                self.refusals.setdefault(number, REFUSED_BLOCKS)
+        later = self.begun()
+        self.loads, self.is_at_rest = self.laid_on(later), not later
         for number in range(1, MOST_ROUNDS + 1):
-            again = again if number > ROUNDS else set(self.order)
-            again -= self.refusals.keys() | self.hopeless
-            moves = 0
-            for at, pool in enumerate((pool for pool in self.order if pool in again), 1):
-                tell(f"round {number}: pool {at} of {len(again)}")
-                moves += self.plan(pool)
-            if not moves:
+            moves = 0 if self.is_at_rest else self.round(number, tell)
+            self.is_at_rest = not moves and not self.lowered()
+            if self.is_at_rest:
                 break
-            again = self.leave_out()
+            self.leave_out()
         self.end()
+
+    def lowered(self) -> int:
+        """Moves from the OSD that is fullest over all pools, as long as there is one by which the cluster gains as much
+        as by any move: without data, and where that OSD is more than the deviation above its shares. How many there
+        are; none in a cluster of many pools and OSDs, where each look takes long.
+        """
+        moves = 0
+        if len(self.order) * len(self.loads.groups) > SMALL_CLUSTER:
+            return 0
+        while not any(own.place for own in self.laid.values()) and self.has_lowered():
+            moves += 1
+        return moves
+
+    def has_lowered(self) -> bool:
+        """Whether something has gone from the OSD that is fullest over all pools."""
+        groups, apart, wanted = self.loads.groups, 2 * self.half * STEP_PARTS, Counter[int]()
+        for own in self.laid.values():
+            wanted.update(own.shares)
+        full = max(
+            (osd for osd in groups if wanted[osd]), key=lambda osd: (groups[osd] / wanted[osd], -osd), default=-1
+        )
+        if full < 0 or 2 * groups[full] <= apart:
+            return False
+        found = []
+        for number in self.order:
+            own = self.laid[number]
+            if number in self.refusals or number in self.hopeless or not own.counts.get(full):
+                continue
+            if self.live_of[number].has_one_block(self.live_of[number].pools[number]):
+                above = self.loads.above(number, self.half)
+                low = (osd for osd in above if osd not in own.closed and groups[full] - groups[osd] > apart)
+                found += [(above[osd] - above[full], number, osd) for osd in low if full in above]
+        best = sorted(way for way in found if -way[0] > GROUP_PARTS)[:TRIED]
+        return any(self.goes(number, full, osd) for _, number, osd in best)
+
+    def goes(self, number: int, leaves: int, comes: int) -> bool:
+        """Whether the lowest group of a pool has gone from an OSD to another that may."""
+        live = self.live_of[number]
+        moves = live.session.balance(number, 1, GAP, {leaves: VAST, comes: -VAST}).moves
+        if moves:
+            self.loads.put(number, live.moved(live.pools[number], self.laid[number]))
+        return moves > 0
+
+    def round(self, number: int, tell: Callable[[str], None]) -> int:
+        """Plans each pool that may have a move, and tells how many moves were made."""
+        moves, again = 0, [pool for pool in self.order if pool not in self.refusals and pool not in self.hopeless]
+        for at, pool in enumerate(again, 1):
+            tell(f"round {number}: pool {at} of {len(again)}")
+            moves += self.plan(pool) if number == 1 or self.may_move(pool) else 0
+        return moves

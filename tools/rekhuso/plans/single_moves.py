@@ -10,9 +10,8 @@ from __future__ import annotations
 
 from ..faults import Refused
 from .pool_places import PoolPlaces
+from .rounds import GAP, VAST
 
-# What the two OSDs count as having, and by how much two must differ, in 256ths of a group.
-FAR, APART = 1 << 28, 3 << 27
 # Up to how many groups, times the OSDs that may have them, a single move is a plan.
 SMALL = 1 << 16
 
@@ -29,7 +28,7 @@ def moved_by_plan(own: PoolPlaces, group: int, leaves: int, comes: int) -> int |
     """
     session = own.live.session
     try:
-        moves = session.balance(own.number, 1, APART, {leaves: FAR, comes: -FAR}).moves
+        moves = session.balance(own.number, 1, GAP, {leaves: VAST, comes: -VAST}).moves
     except Refused:
         moves = 0
     if not moves:

@@ -6,7 +6,8 @@ one from the fullest OSD, of several the one to the emptiest. It comes into a pa
 bounds, where all that comes in the part counts and nothing that goes. The one is the fullest OSD before the part, or
 that after the whole plan, or 1.05 of a share, whichever is most. The other is each OSD's own: one place more than the
 most that it has before the whole plan or after it, as next to a share of nearly nothing no ratio is a bound. Where the
-disks are known the nearfull ratio is the bound in place of both.
+disks are known the nearfull ratio is the bound in place of both. In how many moves of a part an OSD or a host takes
+part may be limited too (`busy`).
 """
 
 from __future__ import annotations
@@ -16,6 +17,7 @@ from collections.abc import Mapping, Sequence
 from heapq import heapify, heappop, heappush
 
 from ..cluster.evenness import Spread
+from .busy import Busy, MostBusy, NO_LIMIT, partakers
 from .steps import PlanStep, batches
 
 # To this ratio to its share an OSD may always be filled, and what is no more than rounding.
@@ -59,6 +61,8 @@ class StepOrder:
                 self.leaving.setdefault(osd, []).append(at)
         self.left = {at for at, osds in enumerate(self.go) if osds}
         self.high: dict[int, float] = {}
+        self.busy = Busy(NO_LIMIT)
+        self.partakers = [partakers(step.was, come) for step, come in zip(steps, self.come)]
         self.bound, end = 0.0, dict(self.has)
         for at in range(len(steps)):
             self.shift(end, at)
@@ -86,8 +90,14 @@ class StepOrder:
         size = self.sizes[at]
         return max((self.ratio(self.high.get(osd, 0) + size, osd) for osd in self.come[at]), default=0.0)
 
+    def limit(self, most: MostBusy) -> None:
+        """OSDs and hosts take part in no more moves of a part than this from now on."""
+        self.busy = Busy(most)
+
     def is_allowed(self, at: int) -> bool:
         """Whether a step may come into the part."""
+        if not self.busy.lets(self.partakers[at]):
+            return False
         if self.limits:
             return not self.over(at)
         is_below = all(self.high.get(osd, 0) <= self.most[osd] for osd in self.come[at])
@@ -95,7 +105,7 @@ class StepOrder:
 
     def begin(self) -> None:
         """A part begins."""
-        self.high = dict(self.has)
+        self.high, self.busy = dict(self.has), Busy(self.busy.most)
         self.bound = max(Spread(self.has, self.share).fullest(), self.end, EVEN) + ROUNDING
 
     def over(self, at: int) -> list[int]:
@@ -116,6 +126,7 @@ class StepOrder:
         self.shift(self.has, at)
         for osd in self.come[at]:
             self.high[osd] = self.high.get(osd, 0) + self.sizes[at]
+        self.busy.take(self.partakers[at])
 
     def part(self, most: int) -> list[PlanStep]:
         """The next part, with at most so many commands, or one step with more. Where no step may come, the one that
@@ -167,4 +178,17 @@ def parts_in_order(order: StepOrder, most: int, is_one: bool) -> list[list[PlanS
             break
         found.append(part)
     rest = [step for step, osds in zip(order.steps, order.go) if not osds]
-    return found + batches(rest, most)
+    return found + [own for part in batches(rest, most) for own in limited(part, order.busy.most)]
+
+
+def limited(steps: list[PlanStep], most: MostBusy) -> list[list[PlanStep]]:
+    """Steps in their order, in parts in which no OSD and no host takes part in more moves than it may."""
+    found, busy = [list[PlanStep]()], Busy(most)
+    for step in steps:
+        own = partakers(step.was, step.places_come())
+        if found[-1] and not busy.lets(own):
+            found.append([])
+            busy = Busy(most)
+        busy.take(own)
+        found[-1].append(step)
+    return [part for part in found if part]

@@ -7,7 +7,7 @@ from dataclasses import dataclass, field
 from ..cluster.difference import exception_commands
 from ..cluster.moving import coming, erasure_pools, has_moved, leaving
 from ..program.answers import Up
-from ..program.maps import Exceptions, Map, altered, entries_of, group_key
+from ..program.maps import Change, Exceptions, Map, altered, entries_of, group_key
 from ..values import SLOTS
 from .move_order import PairsByGroup
 from .pairs import is_same
@@ -129,3 +129,17 @@ def steps_of(value: Map, kept: Exceptions, new: Map, before: dict[str, Up], afte
         now = after[group].places if group in after else was
         steps.append(PlanStep(group, lines, back.get(group, []), was, now, group_key(group)[0] in erasure))
     return steps
+
+
+def change_by(lines: list[str]) -> Change:
+    """The change that commands of a plan stand for: what goes, and what comes."""
+    found: Change = {"old_upmap": [], "old_items": [], "new_upmap": [], "new_items": []}
+    for line in lines:
+        _, _, word, group, *numbers = line.split(" ")
+        key, osds = "items" if word.endswith("-items") else "upmap", list(map(int, numbers))
+        if word.startswith("rm-"):
+            found[f"old_{key}"].append(group)
+        else:
+            pairs = [list(pair) for pair in zip(osds[::2], osds[1::2])]
+            found[f"new_{key}"].append([group, pairs if key == "items" else osds])
+    return found

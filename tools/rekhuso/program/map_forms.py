@@ -39,8 +39,17 @@ STEP_LENGTHS = {
     "chooseleaf_indep": 2,
 }
 TRIES = {"set_choose_tries": 1, "set_chooseleaf_tries": 1}
+# The steps that set from which number on a leaf is sought, which stand in maps under `--stock` alone.
+LEAF_WORDS = {"set_chooseleaf_vary_r": 1, "set_chooseleaf_stable": 1}
+SETTING = {**TRIES, **LEAF_WORDS}
 # The ranges of the numbers of a step; of one that chooses, those of its count and its type.
-RANGES: dict[str, list[tuple[int, int]]] = {"take": [(-65536, -1)], "emit": [], **{op: [(1, 200)] for op in TRIES}}
+RANGES: dict[str, list[tuple[int, int]]] = {
+    "take": [(-65536, -1)],
+    "emit": [],
+    **{op: [(1, 200)] for op in TRIES},
+    "set_chooseleaf_vary_r": [(0, 4)],
+    "set_chooseleaf_stable": [(0, 1)],
+}
 # A group's text; what has more digits names no pool, and Python reads not any number of them.
 GROUP_PATTERN = re.compile(r"(0|[1-9][0-9]{0,19})\.(0|[1-9a-f][0-9a-f]*)")
 LONG_PATTERN = re.compile(r"[1-9][0-9]{20,}\.(0|[1-9a-f][0-9a-f]*)")
@@ -189,9 +198,10 @@ def object_of(required: dict[str, Form], optional: dict[str, Form] | None = None
     return whole
 
 
-def rule_step(has_tries: bool, size: int) -> Form:
+def rule_step(has_tries: bool, is_stock: bool) -> Form:
     """A step of a rule, which chooses at most as many items as a pool has places."""
-    words = {**STEP_LENGTHS, **(TRIES if has_tries else {})}
+    setting, size = SETTING if is_stock else TRIES, limits_of(is_stock).size
+    words = {**STEP_LENGTHS, **(setting if has_tries else {})}
 
     def form(value: object, path: str) -> Defects:
         """What is wrong with a value as such a step."""
@@ -204,7 +214,7 @@ def rule_step(has_tries: bool, size: int) -> Form:
         ):
             tries = (
                 "; steps of tries stand in maps of version 2"
-                if isinstance(value, list) and value[:1] in [[op] for op in TRIES]
+                if isinstance(value, list) and value[:1] in [[op] for op in setting]
                 else ""
             )
             yield Defect(11, path, f"no step{tries}")
@@ -299,16 +309,16 @@ def pairs(limits: Limits) -> Form:
     return list_of(tuple_of(group, list_of(pair, 0, limits.size)), 0, limits.entries)
 
 
-def rules(has_tries: bool, limits: Limits) -> Form:
+def rules(has_tries: bool, is_stock: bool) -> Form:
     """The rules of a map."""
     rule = object_of(
         {
             "id": number_between(0, 255),
             "kind": one_of(*POOL_KINDS),
-            "steps": list_of(rule_step(has_tries, limits.size), 1, 16),
+            "steps": list_of(rule_step(has_tries, is_stock), 1, 16),
         }
     )
-    return list_of(rule, 1, limits.rules)
+    return list_of(rule, 1, limits_of(is_stock).rules)
 
 
 def map_form(has_tries: bool, is_stock: bool) -> Form:
@@ -320,7 +330,7 @@ def map_form(has_tries: bool, is_stock: bool) -> Form:
             "epoch": number_between(1, 2**31),
             "max_osd": number_between(1, limits.osds),
             "buckets": buckets(is_stock),
-            "rules": rules(has_tries, limits),
+            "rules": rules(has_tries, is_stock),
             "pools": pools(limits),
             "osds": list_of(osd(limits), 0, 2**63),
         },
@@ -332,7 +342,7 @@ def change_form(is_stock: bool) -> Form:
     """A change."""
     limits = limits_of(is_stock)
     groups, number, most = number_between(1, limits.groups), osd_id(limits), limits.entries
-    crush = object_of({"buckets": buckets(is_stock), "rules": rules(True, limits)})
+    crush = object_of({"buckets": buckets(is_stock), "rules": rules(True, is_stock)})
     return object_of(
         {"base": number_between(0, 2**64 - 1)},
         {

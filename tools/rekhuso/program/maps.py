@@ -10,6 +10,8 @@ import os
 from collections.abc import Mapping
 from typing import Any, Dict, List, TypeVar, TypedDict, Union, cast
 
+from .map_forms import LEAF_WORDS
+
 # A step of a rule: its word, then its numbers. An entry of a table: a group, or an id, and what belongs to it.
 RuleStep = List[Any]
 Entry = List[Any]
@@ -99,19 +101,27 @@ def group_key(group: str) -> tuple[int, int]:
     return int(pool), int(number, 16)
 
 
-def has_straw2(value: object) -> bool:
-    """Whether a map has a straw2 bucket, so that the program reads it under `--stock` alone; a value, or a text that
-    may be none.
+def needs_stock(value: object) -> bool:
+    """Whether a map has a straw2 bucket, or a rule that sets how leaves are sought, so that the program reads it under
+    `--stock` alone; a value, or a text that may be none.
     """
     if isinstance(value, str):
-        if "straw2" not in value and "\\" not in value:
+        if not any(word in value for word in ("straw2", *LEAF_WORDS, "\\")):
             return False
         try:
             value = json.loads(value)
         except (ValueError, RecursionError):
             return False
-    buckets = value.get("buckets") if isinstance(value, dict) else None
-    return isinstance(buckets, list) and any(isinstance(own, dict) and own.get("kind") == "straw2" for own in buckets)
+    buckets, rules = objects_at(value, "buckets"), objects_at(value, "rules")
+    steps = [own["steps"] for own in rules if isinstance(own.get("steps"), list)]
+    words = [step[0] for own in steps for step in own if isinstance(step, list) and step]
+    return any(own.get("kind") == "straw2" for own in buckets) or any(word in LEAF_WORDS for word in map(str, words))
+
+
+def objects_at(value: object, key: str) -> list[dict[str, Any]]:
+    """The objects in a list of what may be an object; none where there is none."""
+    entries = value.get(key) if isinstance(value, dict) else None
+    return [own for own in entries if isinstance(own, dict)] if isinstance(entries, list) else []
 
 
 def groups_in(pool: Pool) -> list[str]:

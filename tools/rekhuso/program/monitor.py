@@ -21,7 +21,8 @@
     with Monitor(store="cluster.store") as monitor:
         monitor.found_epoch
 
-A map with a straw2 bucket is read under `--stock`, and any other without it unless `stock` says so.
+A map with a straw2 bucket, or with a rule that sets how leaves are sought, is read under `--stock`, and any other
+    without it unless `stock` says so.
 
 With a store the program is `osdmapstore`, which keeps the map and its changes in that file: with a map it begins a new
 store, and without one it opens the store that is there, under `--stock` unless `stock` says otherwise. A change that is
@@ -45,12 +46,20 @@ import tempfile
 import time
 from typing import IO, NoReturn
 
-from ..faults import Fault, Refused, Unopened
+from ..faults import Refused, Trouble, Unopened
 from ..files import text_of
 from ..progress import doing
-from .maps import Map, Program, has_straw2, written
-from .process import Held, Patience, chosen, unblocked
+from .maps import Map, Program, needs_stock, written
+from .process import Held, Patience, temporary, unblocked
 from .session import Session
+from .versions import program_of
+
+# Where the text of a map has its epoch.
+EPOCH = re.compile(r'"epoch"\s*:\s*([0-9]{1,20})\b')
+# What a system says of a file that is no program.
+NO_PROGRAM = (errno.ENOENT, errno.EACCES, errno.ENOEXEC, errno.EISDIR)
+# The most changes that a start may be told to leave in a store: a session of the tools cuts none off.
+MOST_KEPT = "1000000"
 
 
 def map_text(value: Map | str | os.PathLike[str]) -> str:
@@ -63,6 +72,12 @@ def map_text(value: Map | str | os.PathLike[str]) -> str:
         return written(value)
     is_path = not value.lstrip().startswith("{") and "\n" not in value and "\0" not in value and len(value) < 4096
     return text_of(value) if is_path and (value.endswith(".json") or os.path.isfile(value)) else value
+
+
+def epoch_in(text: str) -> int:
+    """The epoch of a map by its text; 0 where the text does not tell one."""
+    found = EPOCH.findall(text)
+    return int(found[0]) if len(found) == 1 else 0
 
 
 class Monitor(Session):
@@ -93,13 +108,14 @@ class Monitor(Session):
             raise ValueError("1 to 64 sessions")
         if value is None and store is None:
             raise ValueError("a map or a store")
-        self.program = chosen(program, "osdmapd" if store is None else "osdmapstore")
+        self.program = program_of(program, "osdmapd" if store is None else "osdmapstore")
         text = None if value is None else map_text(value)
-        self.is_stock = stock if stock is not None else text is None or has_straw2(text)
+        self.is_stock = stock if stock is not None else text is None or needs_stock(text)
         self.found_epoch: int | None = None
         self._store, self._is_closed = None if store is None else os.path.abspath(store), False
-        self._errors = tempfile.TemporaryFile()
-        self._folder = tempfile.TemporaryDirectory()
+        with temporary():
+            self._errors = tempfile.TemporaryFile()
+            self._folder = tempfile.TemporaryDirectory()
         self.sessions: list[Session] = []
         names = [(f"lines-{k}", f"answers-{k}") for k in range(1, sessions + 1)] if sessions > 1 else []
         with Held() as held:
@@ -109,6 +125,8 @@ class Monitor(Session):
                 held.let_go()
                 with self._patience:
                     self._open(names)
+                self._agreement.is_alone = sessions == 1
+                self._agreement.epoch = self.found_epoch or epoch_in(text or "")
             except BaseException:
                 self._process.kill()
                 self.close()
@@ -117,10 +135,11 @@ class Monitor(Session):
     def _words(self, text: str | None, journal: int, names: list[tuple[str, str]]) -> list[str]:
         """The words of the program's command, behind its name; a map is put into its folder."""
         if text is not None:
-            pathlib.Path(self._folder.name, "map.json").write_text(text, encoding="utf-8")
+            with temporary():
+                pathlib.Path(self._folder.name, "map.json").write_text(text, encoding="utf-8")
         files = ["map.json"]
         if self._store is not None:
-            files = [self._store] if text is None else ["--begin", "map.json", self._store]
+            files = ["--keep", MOST_KEPT, self._store] if text is None else ["--begin", "map.json", self._store]
         sessions = [lines for lines, _ in names] + [word for _, answers in names for word in ("--to", answers)]
         return [*(["--stock"] if self.is_stock else []), "--journal", str(journal), *files, *(sessions or ["-"])]
 
@@ -130,7 +149,8 @@ class Monitor(Session):
         not the program. A fault where it does not start.
         """
         for name in (name for pair in names for name in pair):
-            os.mkfifo(os.path.join(self._folder.name, name))
+            with temporary():
+                os.mkfifo(os.path.join(self._folder.name, name))
         try:
             return subprocess.Popen(
                 [str(self.program), *words],
@@ -143,7 +163,8 @@ class Monitor(Session):
         except OSError as fault:
             self._errors.close()
             self._folder.cleanup()
-            raise Fault(f"{self.program}: no program: {fault.strerror}") from None
+            what = "no program" if fault.errno in NO_PROGRAM else "not started"
+            raise Trouble(f"{self.program}: {what}: {fault.strerror}") from None
 
     def _open(self, names: list[tuple[str, str]]) -> None:
         """Reads the epoch of a store, opens the sessions over their pipes and reads their headings. A fault where the
@@ -167,7 +188,7 @@ class Monitor(Session):
         if found is not None:
             return int(found[1])
         if line:
-            raise Fault(f"{self.program}: another program: its output begins with {line[:20]!r}")
+            raise Trouble(f"{self.program}: another program: its output begins with {line[:20]!r}")
         self._ended()
 
     def _writer(self, path: pathlib.Path) -> IO[bytes]:
@@ -199,7 +220,7 @@ class Monitor(Session):
         self._check_open()
         if self._patience.is_spent:
             self.close()
-            raise Fault(f"no answer within {self._patience.seconds} seconds")
+            raise Trouble(f"no answer within {self._patience.seconds} seconds")
         self._errors.seek(0)
         error = self._errors.read().decode("utf-8", "replace").strip()
         self.close()
@@ -207,7 +228,7 @@ class Monitor(Session):
             raise Refused(error.removeprefix("map: "))
         if status == 5 and self._store is not None:
             raise Unopened(self._store, error.removeprefix("store: "))
-        raise Fault(": ".join([f"the program ended with status {status}", *error.splitlines()]))
+        raise Trouble(": ".join([f"the program ended with status {status}", *error.splitlines()]))
 
     def close(self) -> None:
         """Ends the sessions and the program: it ends once it has answered what it was asked. A second call does

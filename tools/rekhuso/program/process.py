@@ -2,6 +2,7 @@
 
 from __future__ import annotations
 
+import contextlib
 import os
 import pathlib
 import shutil
@@ -9,11 +10,11 @@ import signal
 import subprocess
 import threading
 import time
-from collections.abc import Callable
+from collections.abc import Callable, Iterator
 from dataclasses import dataclass
 from types import FrameType
 
-from ..faults import Fault
+from ..faults import Trouble
 from ..values import SLOTS
 from .maps import Program
 
@@ -39,7 +40,7 @@ def built(name: str, beside: Program = None) -> pathlib.Path:
         places = [f"{path} is not there" for path in near + own] + [
             f"no folder of PATH has {name} ({os.environ.get('PATH', '')})"
         ]
-        raise Fault(
+        raise Trouble(
             f"no program: {', and '.join(places)}; `{TARGETS[name]}` in its repository proves and builds it, and "
             f"{PROGRAM_OPTIONS[name]} FILE names it"
         )
@@ -53,11 +54,21 @@ def chosen(program: Program, name: str) -> pathlib.Path:
     program = program or (os.environ.get(VARIABLE) if name == "osdmapd" else None)
     found = pathlib.Path(program or built(name)).resolve()
     if not found.is_file() or not os.access(found, os.X_OK):
-        raise Fault(
+        raise Trouble(
             f"{program or found}: no program; `{TARGETS[name]}` proves and builds it, "
             f"or {PROGRAM_OPTIONS[name]} names another"
         )
     return found
+
+
+@contextlib.contextmanager
+def temporary() -> Iterator[None]:
+    """Has faults of temporary files say that they are of these, and where."""
+    try:
+        yield
+    except OSError as fault:
+        folder = os.environ.get("TMPDIR") or "/tmp"
+        raise Trouble(f"temporary files in {folder}: {fault.strerror or fault}") from None
 
 
 class Patience:
@@ -158,7 +169,7 @@ def told_by(words: list[str]) -> Told:
                 words, stdin=subprocess.DEVNULL, stdout=subprocess.PIPE, stderr=subprocess.PIPE, text=True
             )
         except (OSError, ValueError) as fault:
-            raise Fault(f"{words[0]}: {fault}") from None
+            raise Trouble(f"{words[0]}: {fault}") from None
         with process:
             try:
                 held.let_go()

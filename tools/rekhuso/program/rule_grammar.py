@@ -4,7 +4,7 @@ from __future__ import annotations
 
 from collections.abc import Callable
 
-from .map_forms import TRIES
+from .map_forms import SETTING
 from .maps import RuleStep
 
 LAST = (
@@ -14,8 +14,8 @@ LAST = (
 
 
 def sets_tries(step: RuleStep) -> bool:
-    """Whether a step sets tries."""
-    return step[0] in TRIES
+    """Whether a step sets how a rule tries."""
+    return step[0] in SETTING
 
 
 def chooses(step: RuleStep) -> bool:

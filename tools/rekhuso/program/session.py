@@ -8,9 +8,10 @@ from collections.abc import Callable, Iterable, Mapping
 from itertools import islice
 from typing import IO, NoReturn
 
-from ..faults import Closed, Fault, Refused
+from ..faults import Closed, Refused, Trouble
 from ..progress import doing
 from ..words import counted
+from .agreement import Agreement
 from .answers import Left, Made, Moved, Up, accepted_answer, balance_line, left_of, up_of, ups_of
 from .maps import Map, written
 from .process import Patience
@@ -27,7 +28,7 @@ class Session:
     def __init__(self, lines: IO[bytes], answers: IO[bytes], gone: Callable[[], NoReturn], patience: Patience) -> None:
         """Takes two open pipes, what raises the fault of a program that has ended, and who watches waits."""
         self._lines, self._answers, self._gone, self._patience = lines, answers, gone, patience
-        self._is_closed = False
+        self._is_closed, self._agreement = False, Agreement()
 
     # Lines and their answers
 
@@ -47,7 +48,7 @@ class Session:
             raise Closed from None
         if not line.endswith(b"\n"):
             self._gone()
-        return line[:-1].decode("utf-8")
+        return line[:-1].decode("utf-8", "replace")
 
     def one(self, line: str) -> str:
         """The answer of one line, which is not empty and has no newline; a refusal ends this as `Refused`."""
@@ -56,7 +57,9 @@ class Session:
         self._check_open()
         with self._patience:
             self._send((line + "\n").encode("utf-8", "surrogateescape"))
-            return accepted_answer(self._answer())
+            answer = self._answer()
+        self._agreement.check([line], [answer])
+        return accepted_answer(answer)
 
     def _check_open(self) -> None:
         """`Closed` where the monitor was closed."""
@@ -72,12 +75,14 @@ class Session:
         wanted = sum(map(bool, text.split(b"\n")))
         with self._patience:
             try:
-                answers = b"".join(islice(self._answers, wanted)).decode("utf-8").split("\n")
+                answers = b"".join(islice(self._answers, wanted)).decode("utf-8", "replace").split("\n")
             except ValueError:  # Another thread has closed it meanwhile.
                 raise Closed from None
             if len(answers) <= wanted:
                 self._gone()
             sender.join()
+        if wanted == len(lines):
+            self._agreement.check(lines, answers)
         return answers[:wanted]
 
     def ask(self, lines: list[str]) -> list[str]:
@@ -150,7 +155,7 @@ class Session:
         except Refused as refused:
             if refused.number != NO_LINE:
                 raise
-            raise Fault("the program has no line `fkept`: it is older than these tools, or has no --stock") from None
+            raise Trouble("the program has no line `fkept`: it is older than these tools, or has no --stock") from None
         return {group: left_of(answer).what for group, answer in zip(asked, answers)}
 
     # Changes

@@ -19,13 +19,14 @@ from collections.abc import Iterator
 from dataclasses import dataclass
 from typing import IO
 
-from ..faults import Fault, Refused, Unopened
+from ..faults import Refused, Trouble, Unopened
 from ..progress import doing
 from ..values import SLOTS
 from ..words import counted
 from .maps import Program
 from .monitor import Monitor
 from .page_sums import wrong_page
+from .process import temporary
 
 # The bytes of a log's header, in which each log has salts of its own; and how often files are copied until none was
 # begun anew meanwhile.
@@ -39,6 +40,10 @@ LEAST = (3, 37)
 # The tables of a store, and the column that each has beside the epoch.
 TABLES = {"journal": "change", "map": "text"}
 PROFILES = ("plain", "stock")
+# What only the disk of the copy says, as nothing else is written.
+FULL = (errno.ENOSPC, errno.EDQUOT)
+# How many changes a run of the program takes.
+MOST = 65536
 
 # What is told of a file that is not read, as the program tells it.
 MISSING = "there is no store at this path"
@@ -143,12 +148,15 @@ def copied(path: str) -> Iterator[str]:
         raise Unopened(path, MISSING)
     if not os.path.isfile(path):
         raise Unopened(path, FOREIGN)
-    with tempfile.TemporaryDirectory() as folder:
+    with temporary():
+        made = tempfile.TemporaryDirectory()
+    with made as folder:
         place = os.path.join(folder, "store")
         try:
             copy_files(path, place)
         except OSError as fault:
-            raise Fault(f"{path}: {fault.strerror}") from None
+            where = f"temporary files in {os.path.dirname(folder)}" if fault.errno in FULL else path
+            raise Trouble(f"{where}: {fault.strerror}") from None
         yield place
 
 
@@ -199,7 +207,9 @@ def journal_in(path: str) -> StoredJournal:
     changed by another program.
     """
     if sqlite3.sqlite_version_info < LEAST:
-        raise Fault(f"{path}: the SQLite of this Python is {sqlite3.sqlite_version}, and 3.37 the first that reads it")
+        raise Trouble(
+            f"{path}: the SQLite of this Python is {sqlite3.sqlite_version}, and 3.37 the first that reads it"
+        )
     doing("reading the store")
     with copied(path) as place, contextlib.closing(sqlite3.connect(place, isolation_level=None)) as database:
         try:
@@ -220,24 +230,41 @@ def journal_in(path: str) -> StoredJournal:
 # The maps of a store
 
 
-@contextlib.contextmanager
-def map_at(journal: StoredJournal, epoch: int, program: Program) -> Iterator[Monitor]:
-    """A session over the map of an epoch: the program makes the changes up to it of the first map. `Unopened` where it
-    refuses the map or one of them.
-    """
-    path, rows = journal.path, journal.changes[: epoch - journal.epoch]
+def first_monitor(journal: StoredJournal, program: Program) -> Monitor:
+    """A session over the first map of a store. `Unopened` where the program refuses it, or it has another epoch."""
     if not journal.text.lstrip().startswith("{"):
-        raise Unopened(path, "map: BadJson")
+        raise Unopened(journal.path, "map: BadJson")
     try:
         monitor = Monitor(journal.text, program, stock=True)
     except Refused as refused:
-        raise Unopened(path, f"map: {refused.name}") from None
+        raise Unopened(journal.path, f"map: {refused.name}") from None
+    if (own := monitor.epoch()) != journal.epoch:
+        monitor.close()
+        raise Unopened(journal.path, f"map: its epoch is {own}, and that of its row {journal.epoch}")
+    return monitor
+
+
+def make_changes(path: str, monitor: Monitor, rows: list[StoredChange]) -> None:
+    """Has a session make the changes of rows. `Unopened` where it refuses one."""
     doing(f"making {counted(len(rows), 'change')}")
-    with monitor:
-        if monitor.epoch() != journal.epoch:
-            raise Unopened(path, f"map: its epoch is {monitor.epoch()}, and that of its row {journal.epoch}")
-        answers = monitor.raw(["change " + row.text.replace("\n", " ") for row in rows])
-        for row, answer in zip(rows, answers):
-            if answer.startswith("err "):
-                raise Unopened(path, f"row {row.epoch}: {answer.split(' ')[2]}")
-        yield monitor
+    answers = monitor.raw(["change " + row.text.replace("\n", " ") for row in rows])
+    for row, answer in zip(rows, answers):
+        if answer.startswith("err "):
+            raise Unopened(path, f"row {row.epoch}: {answer.split(' ')[2]}")
+
+
+@contextlib.contextmanager
+def map_at(journal: StoredJournal, epoch: int, program: Program) -> Iterator[Monitor]:
+    """A session over the map of an epoch: the program makes the changes up to it of the first map, in as many runs as
+    they take. `Unopened` where it refuses the map or one of them.
+    """
+    rows, monitor = journal.changes[: epoch - journal.epoch], first_monitor(journal, program)
+    while True:
+        with monitor:
+            make_changes(journal.path, monitor, rows[:MOST])
+            rows = rows[MOST:]
+            if not rows:
+                yield monitor
+                return
+            text = monitor.text()
+        monitor = Monitor(text, program, stock=True)

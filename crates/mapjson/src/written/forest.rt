@@ -90,6 +90,9 @@ impl ToJson for Step {
         match self {
             Step::SetChooseTries(tries) => json!(in alloc; ["set_choose_tries", *tries]),
             Step::SetChooseleafTries(tries) => json!(in alloc; ["set_chooseleaf_tries", *tries]),
+            Step::SetChooseleafVaryR(vary) => json!(in alloc; ["set_chooseleaf_vary_r", *vary]),
+            Step::SetChooseleafStable(stable) =>
+                json!(in alloc; ["set_chooseleaf_stable", *stable]),
             Step::Take(id) => json!(in alloc; ["take", *id]),
             Step::Choose(c) => json!(in alloc; [choose_word(c.mode, c.to_leaf), c.count, c.level]),
             Step::Emit => json!(in alloc; ["emit"]),

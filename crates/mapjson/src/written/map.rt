@@ -48,12 +48,15 @@ fn osds(alloc: Global, map: &OsdMap) -> Result<Value, AllocError>
     Ok(Value::Array(found))
 }
 
-/// Whether a step sets tries.
+/// Whether a step sets how a choose step tries.
 fn sets_tries(step: &Step) -> bool
     ensures { result ≡ sets_tries step.now }
 {
     match step {
-        Step::SetChooseTries(_) | Step::SetChooseleafTries(_) => true,
+        Step::SetChooseTries(_)
+        | Step::SetChooseleafTries(_)
+        | Step::SetChooseleafVaryR(_)
+        | Step::SetChooseleafStable(_) => true,
         Step::Take(_) | Step::Choose(_) | Step::Emit => false,
     }
 }

@@ -65,6 +65,20 @@ impl OsdMap {
             .all(|pool| has_rule(rules, *pool))
     }
 
+    /// Whether each pool that stays has a rule of its kind after a change: as before, where the rules stay.
+    fn rules_kept(&self, change: &Change) -> bool
+        ensures { result
+            ≡ list_all (has_rule (rules_after self.now.map change.now)) (pools_kept self.now.map change.now) }
+    {
+        match &change.parts().new_crush {
+            Some(crush) => self.keep_rules(change, crush.rules()),
+            None => {
+                self.holds_together();
+                true
+            }
+        }
+    }
+
     /// Whether a pool gets no fewer groups than it has once the old pools went and the new ones came.
     #[tactic(auto, unfolding(crate::specs::Changes::grows_from))]
     fn grows(&self, change: &Change, growth: &Grow) -> bool
@@ -84,8 +98,8 @@ impl OsdMap {
         growths.iter().all(|growth| self.grows(change, growth))
     }
 
-    /// How many pools stay.
-    fn count_kept(&self, change: &Change) -> usize
+    /// How many pools stay, where some go.
+    fn count_left(&self, change: &Change) -> usize
         ensures { result ≡ length (pools_kept self.now.map change.now) }
     {
         let old: &[u32] = &change.parts().old_pools;
@@ -93,6 +107,17 @@ impl OsdMap {
             .iter()
             .filter(|pool| !has(old, u64::from(pool.id())))
             .count()
+    }
+
+    /// How many pools stay: all, where none goes.
+    fn count_kept(&self, change: &Change) -> usize
+        ensures { result ≡ length (pools_kept self.now.map change.now) }
+    {
+        if change.parts().old_pools.is_empty() {
+            self.pools().len()
+        } else {
+            self.count_left(change)
+        }
     }
 
     /// Whether there are no more pools than the profile allows once the old ones went and the new ones came.
@@ -153,7 +178,7 @@ impl OsdMap {
         ensures { result ≡ brings_rightly self.now.map change.now }
     {
         let rules = self.rules_after(change);
-        self.keep_rules(change, rules)
+        self.rules_kept(change)
             && have_rules(&change.parts().new_pools, rules)
             && self.are_few(change)
             && self.all_grow(change)

@@ -3,43 +3,33 @@
 from __future__ import annotations
 
 from ...files import JsonObject
+from ...program.map_forms import RANGES, SETTING, STEP_LENGTHS, TRIES
 from ...program.rule_grammar import rule_fault
 from ...words import listed, some
 from ..cluster import Cluster, KINDS_BY_TYPE
 from ..dump_forms import WEIGHT_SET, misfits
 from ..dump_types import DumpRule, DumpStep
 from ..map_parts import counted_steps
+from ..tunables import SET_BY, TUNABLES, range_of
 from .counts import doubles, range_reason, rules_reason
-
-TUNABLES = {
-    "choose_local_tries": 0,
-    "choose_local_fallback_tries": 0,
-    "choose_total_tries": 50,
-    "chooseleaf_descend_once": 1,
-    "chooseleaf_vary_r": 1,
-    "chooseleaf_stable": 1,
-}
-OPS = {
-    "take",
-    "emit",
-    "choose_firstn",
-    "choose_indep",
-    "chooseleaf_firstn",
-    "chooseleaf_indep",
-    "set_choose_tries",
-    "set_chooseleaf_tries",
-}
 
 
 def tunable_reasons(cluster: Cluster) -> list[str]:
-    """Tunables that are not those called jewel or are not told, and sets of weights for single pools."""
+    """Tunables that no map has or that are not told, and sets of weights for single pools."""
     own, found = cluster.crush["tunables"], []
     for name, wanted in TUNABLES.items():
         if name not in own and "tunables" not in cluster.torn:
             found.append(f"no tunable {name}: is it a dump of an older release?")
         elif own.get(name, wanted) != wanted:
-            found.append(f"tunable {name} is {own[name]}, not {wanted}")
+            found += tunable_reason(cluster, name, own[name])
     return found + weight_set_reasons(cluster)
+
+
+def tunable_reason(cluster: Cluster, name: str, number: int) -> list[str]:
+    """What is wrong with a tunable that is not jewel's: in a stock cluster nothing where steps of its rules set it."""
+    if cluster.is_stock and name in SET_BY:
+        return range_reason(f"tunable {name} is {number}", number, *range_of(name))
+    return [f"tunable {name} is {number}, not {TUNABLES[name]}"]
 
 
 def weight_set_reasons(cluster: Cluster) -> list[str]:
@@ -83,20 +73,26 @@ def compat_reasons(cluster: Cluster, entry: JsonObject) -> list[str]:
 
 def step_reasons(cluster: Cluster, rule: DumpRule) -> list[str]:
     """Steps of a rule that no map has: unknown words, items and types, and counts outside their ranges."""
-    found, name = [], f"rule {rule['rule_name']}"
+    found, name, words = [], f"rule {rule['rule_name']}", words_of(cluster)
     for step in rule["steps"]:
-        number, most = step.get("num", 0), 200 if step["op"].endswith("_tries") else cluster.limits.size
-        if step["op"] not in OPS:
+        number = step.get("num", 0)
+        if step["op"] not in words:
             found.append(f"{name} has a step {step['op']}, which is not in the grammar")
         elif step["op"] == "take" and step["item"] not in cluster.buckets and "buckets" not in cluster.torn:
             found.append(f"{name} takes {step.get('item_name', step['item'])}, which is no bucket")
         elif "num" in step and number < 0:
             found += negative_reasons(cluster, rule, step)
         elif "num" in step:
-            found += range_reason(f"{name} has the number {number} in a step {step['op']}", number, most == 200, most)
-        if "type" in step and step["op"] in OPS:
+            low, high = RANGES.get(step["op"], [(0, cluster.limits.size)])[0]
+            found += range_reason(f"{name} has the number {number} in a step {step['op']}", number, low, high)
+        if "type" in step and step["op"] in words:
             found += type_reasons(cluster, name, step["type"])
     return found
+
+
+def words_of(cluster: Cluster) -> set[str]:
+    """The words of the steps that a map of a cluster may have."""
+    return {*STEP_LENGTHS, *(SETTING if cluster.is_stock else TRIES)}
 
 
 def negative_reasons(cluster: Cluster, rule: DumpRule, step: DumpStep) -> list[str]:
@@ -128,18 +124,25 @@ def type_reasons(cluster: Cluster, name: str, kind: str) -> list[str]:
     return [] if "types" in cluster.torn else [f"{name} chooses the unknown type {kind}"]
 
 
+def length_reason(cluster: Cluster, rule: DumpRule) -> list[str]:
+    """A rule without steps, or with more than a map holds, those that set tunables among them."""
+    front = len(cluster.tunable_steps(rule)) if rule["steps"] else 0
+    what = f"rule {rule['rule_name']} has {len(rule['steps']) + front} steps"
+    return range_reason(what + " with those that set tunables" * bool(front), len(rule["steps"]) + front, 1, 16)
+
+
 def rule_reasons(cluster: Cluster) -> list[str]:
     """Rules of another kind, or whose steps are none, each by its name."""
-    found: list[str] = []
+    found, words = list[str](), words_of(cluster)
     for rule in cluster.rules:
         name = f"rule {rule['rule_name']}"
         found += step_reasons(cluster, rule) + range_reason(
             f"{name} has the id {rule['rule_id']}", rule["rule_id"], 0, 255
         )
-        found += range_reason(f"{name} has {len(rule['steps'])} steps", len(rule["steps"]), 1, 16)
+        found += length_reason(cluster, rule)
         if rule["type"] not in KINDS_BY_TYPE:
             found.append(f"{name} is of the unknown type {rule['type']}")
-        elif all(step["op"] in OPS and step.get("type", "osd") in cluster.types for step in rule["steps"]):
+        elif all(step["op"] in words and step.get("type", "osd") in cluster.types for step in rule["steps"]):
             steps = cluster.steps_of(rule)
             fault = (
                 rule_fault(steps, KINDS_BY_TYPE[rule["type"]])

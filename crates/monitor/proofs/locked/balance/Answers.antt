@@ -1,5 +1,6 @@
 use Rattle.balancer.specs.Requests.{asked_aim}
 use Rattle.monitor.proofs.Balancing.{balanced_by, adds_plan, never_spent}
+use Rattle.monitor.proofs.Counting.{plan_longer}
 use Rattle.monitor.proofs.locked.balance.Goals as goal
 
 pub returns-clause-balances : goal.returns-clause-balances
@@ -24,3 +25,12 @@ returns-clause-own g c =
 pub returns-clause-unspent : goal.returns-clause-unspent
 returns-clause-unspent g c =
     never_spent c.args.state.now c.balance-answer.new.self c.args.request.pool (asked_aim c.args.request) c.args.request.limit c.balance-answer.result c.balance-answer.ensures.balances
+
+pub returns-clause-longer : goal.returns-clause-longer
+returns-clause-longer g c =
+    let was = c.map.ensures in
+    let done = adds_plan c.args.state.now c.args.request.pool (asked_aim c.args.request) c.args.request.limit
+    (record { map = was.after; lawful = was.lawful; epoch = was.epoch }) c.balance-answer.new.self c.balance-answer.result
+    c.balance-answer.ensures.balances in
+    plan_longer c.args.state.now.first c.args.pass.now.history c.balance-answer.new.pass.history c.args.request.pool (asked_aim c.args.request) c.args.request.limit c.balance-answer.result
+    (rw (c.balance-answer.ensures.pass, c.requires.pass) done)

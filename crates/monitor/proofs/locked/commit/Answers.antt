@@ -1,4 +1,5 @@
 use Rattle.monitor.proofs.Histories.{committed_by, adds_change, unspent}
+use Rattle.monitor.proofs.Counting.{commit_longer}
 use Rattle.monitor.proofs.locked.commit.Goals as goal
 
 pub returns-clause-commits : goal.returns-clause-commits
@@ -22,3 +23,9 @@ returns-clause-own g c =
 pub returns-clause-unspent : goal.returns-clause-unspent
 returns-clause-unspent g c =
     unspent c.args.state.now c.commit-answer.new.self c.args.base c.args.change c.commit-answer.result c.commit-answer.ensures.commits
+
+pub returns-clause-longer : goal.returns-clause-longer
+returns-clause-longer g c =
+    let done = adds_change c.args.state.now c.commit-answer.new.self c.args.base c.args.change c.commit-answer.result
+    c.commit-answer.ensures.commits in
+    commit_longer c.args.pass.now.history c.commit-answer.new.pass.history c.args.change c.commit-answer.result (rw (c.commit-answer.ensures.pass, c.requires.pass) done)

@@ -1,4 +1,4 @@
-use Rattle.std.proofs.Common.{◌≡◌, ◌<◌, length, arith, refl, rules}
+use Rattle.std.proofs.Common.{◌<◌, length, arith, refl, rules}
 use Rattle.std.proofs.lemmas.Bool.{false≢true}
 use Rattle.serving.proofs.Joined.{made_more, not_once}
 use Rattle.serving.proofs.players.are_made_once.Goals as goal

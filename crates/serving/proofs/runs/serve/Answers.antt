@@ -1,4 +1,4 @@
-use Rattle.std.proofs.Common.{◌≡◌, length, arith}
+use Rattle.std.proofs.Common.{length, arith}
 use Rattle.serving.proofs.Opened.{can_open_stated}
 use Rattle.serving.proofs.Played.{served_stated}
 use Rattle.serving.proofs.runs.serve.Goals as goal

@@ -1,5 +1,5 @@
 use Rattle.std.proofs.Common.{◌∙◌, sym, ap, get_or}
-use Rattle.balancer.proofs.MarksHold.{seen_none, seen_open, seen_shut, seen_opened, seen_all}
+use Rattle.balancer.proofs.MarksHold.{seen_shut, seen_opened}
 use Rattle.balancer.proofs.board.Board.look_again.Goals as goal
 use Rattle.balancer.proofs.board.Board.look_again.Goals.{then-may_come, else-may_come}
 

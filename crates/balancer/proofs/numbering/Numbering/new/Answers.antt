@@ -1,2 +1,0 @@
-use Rattle.balancer.proofs.NumberedDomains.{none_numbered}
-use Rattle.balancer.proofs.numbering.Numbering.new.Goals as goal

@@ -1,8 +1,8 @@
 use Rattle.std.proofs.Common.{◌≡◌, ◌+◌, ◌<◌, [], length, ap, sym, ◌∙◌, arith}
 use Rattle.crush.specs.Placed.{choosing}
 use Rattle.crush.specs.Firstn.{with_attempt, after_replica, firstn}
-use Rattle.crush.proofs.FailedTries.{fails_none, fails_after}
-use Rattle.crush.proofs.ReplicaTries.{replica_taken, replica_full, with_other}
+use Rattle.crush.proofs.FailedTries.{fails_none}
+use Rattle.crush.proofs.ReplicaTries.{with_one, replica_taken, replica_full, with_other}
 use Rattle.crush.proofs.Rounds.{fold_range, fold_over}
 use Rattle.crush.proofs.chooser.Chooser.firstn.Goals as goal
 use Rattle.crush.proofs.chooser.Chooser.firstn.Goals.{in-Chosen+in_ok-push, in_default}
@@ -11,6 +11,7 @@ pub loop-init : goal.loop-init
 loop-init c = record {
   done = c.clear.ensures.items;
   at = omega arith;
+  few = omega (arith, ap length c.clear.ensures.items);
   known = fails_none (choosing c.args.self.now) c.clear.new.self.items c.args.start.now 0 (0 + 0) (omega arith);
   picks = c.requires.picks;
 }
@@ -31,7 +32,8 @@ loop-preserved c =
           ∙ ap (λ ys. f ys c.loop.counter) c.loop.invariant.done
           ∙ fold_range f [] c.loop.counter;
       at = omega (arith, c.loop.invariant.at, c.replica.ensures.next);
-      known = rw new (fails_after k old a.start.now c.replica.result c.replica.new.sought.rep (c.replica.new.sought.rep + c.replica.new.sought.known) (rw (c.new-below.ensures.bucket, c.deref.ensures.value) at c.replica.ensures.known));
+      few = omega (arith, c.loop.invariant.few, with_one old c.replica.result, ap length new);
+      known = rw new (rw (c.new-below.ensures.bucket, c.deref.ensures.value) at c.replica.ensures.known);
       picks = c.replica.ensures.picks;
     }
 

@@ -1,7 +1,7 @@
 use Rattle.std.proofs.Common.{◌≡◌, ◌+◌, ap, sym, ◌∙◌, arith}
 use Rattle.crush.specs.Placed.{choosing}
 use Rattle.crush.specs.Firstn.{attempt_of}
-use Rattle.crush.proofs.FailedTries.{fails_more, fails_next, fails_skipped}
+use Rattle.crush.proofs.FailedTries.{fails_after, fails_more, fails_next, fails_skipped}
 use Rattle.crush.proofs.ReplicaTries.{replica_decided, replica_failed, replica_over}
 use Rattle.crush.proofs.chooser.Chooser.replica.Goals as goal
 
@@ -26,7 +26,9 @@ pub returns-in_default-clause-known : goal.returns-in_default-clause-known
 returns-in_default-clause-known c =
     let k = choosing c.args.self.now in
     let a = c.args in
-    fails_next k a.chosen.now a.start.now.bucket.now a.sought.now.rep c.loop-failures.failures c.saturating_sub.result c.loop-failures.invariant.before (omega arith)
+    let next = a.sought.now.rep + 1 in
+    let known = fails_next k a.chosen.now a.start.now.bucket.now a.sought.now.rep c.loop-failures.failures c.saturating_sub.result c.loop-failures.invariant.before (omega arith) in
+    fails_after k a.chosen.now a.start.now.bucket.now c.attempt.result next c.saturating_sub.result c.still_known.result known c.still_known.ensures.few c.still_known.ensures.none
 
 pub loop-failures-preserved : goal.loop-failures-preserved
 loop-failures-preserved c =

@@ -1,14 +1,9 @@
-use Rattle.std.proofs.Common.{rules, tests, ap}
-use Rattle.maptypes.specs.Pools.{PoolFacts}
-use Rattle.std.specs.Prelude.{ℕ, not}
-use Rattle.std.proofs.lemmas.Iterator.{YieldsList-from_slice}
-use Rattle.std.proofs.lemmas.Iterator.Consumers.{YieldsList-from_filter, count_from_yields_List}
-use Rattle.keylist.specs.Keys.{has_key}
-use Rattle.osdmap.specs.Stored.{StoredMap}
-use Rattle.osdmap.proofs.CheckLemmas.{kept-is}
+use Rattle.std.proofs.Common.{◌∙◌, sym, ap, length}
+use Rattle.osdmap.proofs.CheckLemmas.{kept-all, none-there}
 use Rattle.osdmap.proofs.map.OsdMap.count_kept.Goals as goal
 
-pub returns : goal.returns
-returns c =
-    let pools = ap (λ (k : StoredMap). k.map.pools) c.self.view_is in
-    rw (kept-is c.args.self.now.map c.args.change.now) (count_from_yields_List c.filter.result _ c.count.ensures.ran (YieldsList-from_filter _ (λ (q : PoolFacts). not (has_key (λ (k : ℕ). k) c.args.change.now.old_pools q.id)) (YieldsList-from_slice c.args.self.now.map.pools (cc pools)) c.filter.ensures.closure (λ x b q k. search (rules, tests))))
+pub returns-then-is_empty : goal.returns-then-is_empty
+returns-then-is_empty c =
+    let none = none-there c.deref.result.now c.is_empty.result c.is_empty.ensures c.if-is_empty.true in
+    let old = sym (c.deref.ensures ∙ ap (λ p. p.old_pools) c.parts.ensures.value) ∙ none in
+    ap length (c.pools.ensures ∙ sym (kept-all c.args.self.now.map c.args.change.now old))

@@ -1,4 +1,4 @@
-use Rattle.std.proofs.Common.{◌≡◌, ◌∙◌, ap, map, refl, nat_abs, rules, arith}
+use Rattle.std.proofs.Common.{◌≡◌, ◌∙◌, refl, nat_abs, rules, arith}
 use Rattle.std.proofs.lemmas.Int.{to_z-of_z}
 use mir.Syntax.{w128}
 use mir.Val.{SFits}
@@ -6,7 +6,7 @@ use Rattle.maptypes.proofs.Judged.{stops}
 use Rattle.mapparts.proofs.Within.{word_between}
 use Rattle.osdmap.specs.Stored.{StoredMap}
 use Rattle.osdmap.specs.Stated.{map_fault, IsStated}
-use Rattle.osdmap.specs.Built.{without_exceptions, rows_of, row_presence, row_weight}
+use Rattle.osdmap.specs.Built.{without_exceptions}
 use Rattle.osdmap.proofs.Built.{IsBuilt, parts_fit_each, some_osds, few_osds, fault_crush, fault_pool, fault_osd, no_fault, is_stated, holds}
 use Rattle.osdmap.proofs.Excepted.{bare_fits, bare_exceptions}
 use Rattle.osdmap.proofs.map.OsdMap.without_exceptions.Goals as goal

@@ -5,7 +5,7 @@ use Rattle.osdmap.proofs.Accepted.{accepted}
 use Rattle.osdmap.proofs.Named.{all_below}
 use Rattle.pgtable.specs.After.{map_after}
 use Rattle.pgtable.specs.Patches.{ups_after}
-use Rattle.pgtable.proofs.Found.{few_ups}
+use Rattle.pgtable.proofs.Found.{few_ups, rising_tables}
 use Rattle.pgtable.proofs.States.{ups_follow}
 use Rattle.pgtable.proofs.table.PgTable.make_patch.Goals as goal
 
@@ -32,7 +32,7 @@ returns c =
     let lead = c.in_ok-tables.ensures.lead in
     record {
       leads = record {
-        fits = record { pools = lead.fits; few_osds = rw up (few_ups (map_after u) 4096 holds.few) };
+        fits = record { pools = lead.fits; rise = rw lead.tables (rising_tables (map_after u) holds); few_osds = rw up (few_ups (map_after u) 4096 holds.few) };
         table = record { holds = holds; pools = lead.tables; up = up };
       };
       counted = c.in_ok-tables.ensures.evals;

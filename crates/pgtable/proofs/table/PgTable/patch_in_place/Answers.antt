@@ -2,7 +2,7 @@ use Rattle.std.proofs.Common.{◌≡◌, ◌∙◌, ◌<◌, refl, ap, length, a
 use Rattle.std.proofs.lemmas.List.Sums.{sum_by_more, sum_by_more_le}
 use Rattle.std.proofs.lemmas.Option.{slice_get_read}
 use Rattle.pgtable.specs.declared.pool_table.PoolTable.{PoolTable}
-use Rattle.pgtable.specs.Patches.{evals_in}
+use Rattle.pgtable.specs.Patches.{evals_in, patches_of}
 use Rattle.pgtable.specs.After.{map_after}
 use Rattle.pgtable.proofs.PatchedInPlace.{table_at, lead_more, lead_in_place, evals_in_place, few_in_place}
 use Rattle.pgtable.proofs.ChangedSets.{leaving, none_touched, pools_stay}
@@ -40,11 +40,11 @@ loop-table-preserved c =
     let is = rw c.pools-table-items.ensures.pools at c.table-item.is in
     let there = slice_get_read c.args.self.now.pools _ c.loop-table.table-index c.table-item.result refl inside is in
     let evals = λ (q : PoolTable). evals_in (map_after u) u.change.now q.pool in
-    let more = lead_more c.args.self.now.pools (map_after u) c.loop-table.table-index c.table-item.result c.loop-table.patches.items c.in_ok-groups.groups.patch c.loop-table.invariant.made there c.in_ok-groups.ensures.lead in
+    let more = lead_more c.args.self.now.pools (map_after u) c.loop-table.table-index c.table-item.result (patches_of c.loop-table.patches) c.in_ok-groups.groups.patch c.loop-table.invariant.made there c.in_ok-groups.ensures.lead in
     let sum = sum_by_more evals c.args.self.now.pools c.loop-table.table-index c.table-item.result inside in
     let last = ap evals is in
     record {
-      made = rw c.in_ok-push.ensures.items more;
+      made = rw c.in_ok-push.ensures more;
       evals = omega (arith, sum, last, c.in_ok-groups.ensures.evals, c.loop-table.invariant.evals);
       runs = omega (arith, sum, last, c.in_ok-groups.ensures.runs, c.loop-table.invariant.runs);
     }
@@ -67,7 +67,7 @@ returns-clause-lead c =
     let past = rw c.pools-table-items.ensures.pools at c.loop-table-test.false in
     let end = rw c.pools-table-items.ensures.pools at c.loop-table.auto.table-index-end in
     let e : c.loop-table.table-index ≡ length c.args.self.now.pools = omega (arith, past, end) in
-    let lead = lead_in_place c.args.self.now u.before.now.map u.change.now c.loop-table.patches.items c.requires.table s (rw e at c.loop-table.invariant.made) in
+    let lead = lead_in_place c.args.self.now u.before.now.map u.change.now (patches_of c.loop-table.patches) c.requires.table s (rw e at c.loop-table.invariant.made) in
     record { fits = lead.0; tables = lead.1 }
 
 pub returns-clause-evals : goal.returns-clause-evals

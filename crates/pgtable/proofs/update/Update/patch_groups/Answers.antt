@@ -1,111 +1,31 @@
 use Rattle.std.proofs.Common.{◌∙◌, [], ap, refl, sym, arith}
 use Rattle.pgtable.specs.After.{map_after}
 use Rattle.pgtable.specs.Patches.{with_sets}
-use Rattle.pgtable.proofs.Keeping.{concerned_within, evals_concerned, evals_changes, changes_within, changes_fit, changes_ascend, lead_none, lead_some}
-use Rattle.pgtable.proofs.ChangedSets.{source_concerned, none_concerned, no_entries}
+use Rattle.pgtable.proofs.Keeping.{evals_changes, lead_none}
+use Rattle.pgtable.proofs.ChangedSets.{source_concerned}
 use Rattle.pgtable.proofs.update.Update.patch_groups.Goals as goal
 
-pub with_sets-requires-clause-inside : goal.with_sets-requires-clause-inside
-with_sets-requires-clause-inside c =
-    let u = c.args.self.now in
-    rw (c.deref-2.ensures.value ∙ c.in_ok-numbers.ensures) (concerned_within u.source.now.map u.change.now c.args.pool.now)
-
-pub prepare-requires-clause-within : goal.prepare-requires-clause-within
-prepare-requires-clause-within c =
+pub returns-then-not-may_concern-clause-lead : goal.returns-then-not-may_concern-clause-lead
+returns-then-not-may_concern-clause-lead c =
     let u = c.args.self.now in
     let p = c.args.pool.now in
     let numbers = source_concerned u.before.now.map u.source.now.map u.change.now p u.is_after c.holds.ensures.is_source in
-    let changes = rw (c.deref-2.ensures.value ∙ c.in_ok-numbers.ensures ∙ numbers) at c.in_ok-changes.ensures.changes in
-    rw (c.requires.groups, changes) (changes_within u.before.now.map (map_after u) u.change.now p)
-
-pub prepare-requires-clause-fits : goal.prepare-requires-clause-fits
-prepare-requires-clause-fits c =
-    let u = c.args.self.now in
-    let p = c.args.pool.now in
-    let numbers = source_concerned u.before.now.map u.source.now.map u.change.now p u.is_after c.holds.ensures.is_source in
-    let changes = rw (c.deref-2.ensures.value ∙ c.in_ok-numbers.ensures ∙ numbers) at c.in_ok-changes.ensures.changes in
-    rw (c.requires.groups, changes) (changes_fit (map_after u) u.change.now p c.holds.ensures.leads.holds_after c.requires.there)
-
-pub prepare-requires-clause-ascending : goal.prepare-requires-clause-ascending
-prepare-requires-clause-ascending c =
-    let u = c.args.self.now in
-    let p = c.args.pool.now in
-    let numbers = source_concerned u.before.now.map u.source.now.map u.change.now p u.is_after c.holds.ensures.is_source in
-    let changes = rw (c.deref-2.ensures.value ∙ c.in_ok-numbers.ensures ∙ numbers) at c.in_ok-changes.ensures.changes in
-    rw changes (changes_ascend (map_after u) u.change.now p)
-
-pub returns-then-is_empty-clause-lead : goal.returns-then-is_empty-clause-lead
-returns-then-is_empty-clause-lead c =
-    let u = c.args.self.now in
-    let p = c.args.pool.now in
-    let numbers = source_concerned u.before.now.map u.source.now.map u.change.now p u.is_after c.holds.ensures.is_source in
-    let empty = no_entries c.in_ok-numbers.numbers.items _ _ c.is_empty.ensures c.if-is_empty.true (omega (arith, c.in_ok-numbers.numbers.ok)) in
-    let none = sym empty ∙ c.in_ok-numbers.ensures ∙ numbers in
+    let none = c.may_concern.ensures c.if-not-may_concern.true ∙ numbers in
     lead_none u.before.now.map (map_after u) u.change.now p c.holds.ensures.leads c.requires.there c.requires.untouched c.args.groups.now [] c.requires.groups (ap (with_sets (map_after u) p) none) refl
 
-pub returns-then-is_empty-clause-evals : goal.returns-then-is_empty-clause-evals
-returns-then-is_empty-clause-evals c =
+pub returns-then-not-may_concern-clause-evals : goal.returns-then-not-may_concern-clause-evals
+returns-then-not-may_concern-clause-evals c =
     let u = c.args.self.now in
     let p = c.args.pool.now in
     let numbers = source_concerned u.before.now.map u.source.now.map u.change.now p u.is_after c.holds.ensures.is_source in
-    let empty = no_entries c.in_ok-numbers.numbers.items _ _ c.is_empty.ensures c.if-is_empty.true (omega (arith, c.in_ok-numbers.numbers.ok)) in
-    let none = sym empty ∙ c.in_ok-numbers.ensures ∙ numbers in
+    let none = c.may_concern.ensures c.if-not-may_concern.true ∙ numbers in
     evals_changes (map_after u) u.change.now p [] 0 c.requires.untouched (ap (with_sets (map_after u) p) none) refl
 
-pub returns-then-is_empty-clause-runs : goal.returns-then-is_empty-clause-runs
-returns-then-is_empty-clause-runs c =
+pub returns-then-not-may_concern-clause-runs : goal.returns-then-not-may_concern-clause-runs
+returns-then-not-may_concern-clause-runs c =
     let u = c.args.self.now in
     let p = c.args.pool.now in
     let numbers = source_concerned u.before.now.map u.source.now.map u.change.now p u.is_after c.holds.ensures.is_source in
-    let empty = no_entries c.in_ok-numbers.numbers.items _ _ c.is_empty.ensures c.if-is_empty.true (omega (arith, c.in_ok-numbers.numbers.ok)) in
-    let none = sym empty ∙ c.in_ok-numbers.ensures ∙ numbers in
-    let evals = evals_changes (map_after u) u.change.now p [] 0 c.requires.untouched (ap (with_sets (map_after u) p) none) refl in
-    omega (arith, evals, c.runs-then-is_empty.ensures)
-
-pub returns-clause-lead : goal.returns-clause-lead
-returns-clause-lead c =
-    let u = c.args.self.now in
-    let p = c.args.pool.now in
-    let numbers = source_concerned u.before.now.map u.source.now.map u.change.now p u.is_after c.holds.ensures.is_source in
-    let changes = rw (c.deref-2.ensures.value ∙ c.in_ok-numbers.ensures ∙ numbers) at c.in_ok-changes.ensures.changes in
-    lead_some u.before.now.map (map_after u) u.change.now p c.holds.ensures.leads c.requires.there c.requires.untouched c.args.groups.now c.in_ok-patch.patch c.requires.groups (ap (λ v. v.items) c.in_ok-patch.ensures.made ∙ changes) c.in_ok-patch.ensures.fits
-
-pub returns-clause-evals : goal.returns-clause-evals
-returns-clause-evals c =
-    let u = c.args.self.now in
-    let p = c.args.pool.now in
-    let numbers = source_concerned u.before.now.map u.source.now.map u.change.now p u.is_after c.holds.ensures.is_source in
-    let changes = rw (c.deref-2.ensures.value ∙ c.in_ok-numbers.ensures ∙ numbers) at c.in_ok-changes.ensures.changes in
-    evals_changes (map_after u) u.change.now p c.in_ok-changes.changes.items _ c.requires.untouched changes (omega (arith, c.in_ok-changes.changes.ok))
-
-pub returns-clause-runs : goal.returns-clause-runs
-returns-clause-runs c =
-    let u = c.args.self.now in
-    let p = c.args.pool.now in
-    let numbers = source_concerned u.before.now.map u.source.now.map u.change.now p u.is_after c.holds.ensures.is_source in
-    rw (evals_concerned (map_after u) u.change.now p c.requires.untouched) (rw (c.deref-2.ensures.value ∙ c.in_ok-numbers.ensures ∙ numbers) at c.in_ok-changes.ensures.runs)
-
-pub returns-then-is_idle-clause-lead : goal.returns-then-is_idle-clause-lead
-returns-then-is_idle-clause-lead c =
-    let u = c.args.self.now in
-    let p = c.args.pool.now in
-    let numbers = source_concerned u.before.now.map u.source.now.map u.change.now p u.is_after c.holds.ensures.is_source in
-    let none = none_concerned u.source.now.map u.change.now p u.groups.items c.holds.ensures.candidates (sym c.is_idle.ensures ∙ c.if-is_idle.true) ∙ numbers in
-    lead_none u.before.now.map (map_after u) u.change.now p c.holds.ensures.leads c.requires.there c.requires.untouched c.args.groups.now [] c.requires.groups (ap (with_sets (map_after u) p) none) refl
-
-pub returns-then-is_idle-clause-evals : goal.returns-then-is_idle-clause-evals
-returns-then-is_idle-clause-evals c =
-    let u = c.args.self.now in
-    let p = c.args.pool.now in
-    let numbers = source_concerned u.before.now.map u.source.now.map u.change.now p u.is_after c.holds.ensures.is_source in
-    let none = none_concerned u.source.now.map u.change.now p u.groups.items c.holds.ensures.candidates (sym c.is_idle.ensures ∙ c.if-is_idle.true) ∙ numbers in
-    evals_changes (map_after u) u.change.now p [] 0 c.requires.untouched (ap (with_sets (map_after u) p) none) refl
-
-pub returns-then-is_idle-clause-runs : goal.returns-then-is_idle-clause-runs
-returns-then-is_idle-clause-runs c =
-    let u = c.args.self.now in
-    let p = c.args.pool.now in
-    let numbers = source_concerned u.before.now.map u.source.now.map u.change.now p u.is_after c.holds.ensures.is_source in
-    let none = none_concerned u.source.now.map u.change.now p u.groups.items c.holds.ensures.candidates (sym c.is_idle.ensures ∙ c.if-is_idle.true) ∙ numbers in
+    let none = c.may_concern.ensures c.if-not-may_concern.true ∙ numbers in
     let evals = evals_changes (map_after u) u.change.now p [] 0 c.requires.untouched (ap (with_sets (map_after u) p) none) refl in
     omega (arith, evals, c.runs.ensures)

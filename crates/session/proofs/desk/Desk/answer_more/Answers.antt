@@ -19,6 +19,7 @@ loop-left-init g c =
       refl,
       omega arith,
       omega arith,
+      omega (arith, c.lines_of.ensures, c.saturating_sub-left.ensures),
     )
 
 pub loop-left-smaller : goal.loop-left-smaller
@@ -58,6 +59,7 @@ loop-left-preserved g c =
       c.loop-left.invariant.3,
       omega (arith, lens),
       omega (arith, lens),
+      omega (arith, c.loop-left.invariant, c.loop-left-test.true, c.lines_of-in-loop-left.ensures, c.saturating_sub-left-in-loop-left.ensures),
     )
 
 pub returns-in_err-tell_answer-clause-answers : goal.returns-in_err-tell_answer-clause-answers

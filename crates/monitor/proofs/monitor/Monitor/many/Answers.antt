@@ -1,0 +1,14 @@
+use Rattle.std.proofs.Common.{◌≡◌, ◌∙◌, List, [], ◌∷◌, ◌++◌, length, length-append, arith, ap, sym, subst}
+use Rattle.std.specs.List.{All}
+use Rattle.std.proofs.lemmas.List.Elements.{All-push}
+use Rattle.monitor.specs.declared.member.Member.{Member}
+use Rattle.monitor.specs.Members.{IsNewMemberOf}
+use Rattle.monitor.proofs.monitor.Monitor.many.Goals as goal
+
+pub loop-seat-preserved : goal.loop-seat-preserved
+loop-seat-preserved g c =
+    let more : c.push.new.self.items ≡ c.loop-seat.members.items ++ c.in_ok-member.field-0 ∷ [] = c.in_ok-push.ensures.items in (
+      omega (arith, ap length more ∙ length-append c.loop-seat.members.items (c.in_ok-member.field-0 ∷ []), length-append c.loop-seat.yielded (c.in-Some.seat ∷ []), c.loop-seat.invariant.0),
+      subst (λ (ms : List Member). All (IsNewMemberOf c.args.self.now) ms) (sym more)
+          (All-push (IsNewMemberOf c.args.self.now) c.loop-seat.members.items c.in_ok-member.field-0 c.loop-seat.invariant.1 c.in_ok-member.ensures),
+    )

@@ -1,0 +1,130 @@
+"""Plans that end: a plan over what another has made is empty, and what gains nothing is no plan."""
+
+from __future__ import annotations
+
+import pathlib
+import random
+from typing import Any
+
+from rekhuso.cluster.evenness import Spread
+from rekhuso.plans.cycles import without_cycles
+from rekhuso.plans.gains import gains
+from rekhuso.plans.steps import PlanStep
+
+from tests.clusters import STOCK, Json, commands, copied
+from tests.tool_cases import StockCase
+
+# Stock clusters of few groups.
+FEW = ("002-proxmox", "005-openstack-mixed", "011-drained", "019-two-roots")
+
+
+def step_of(group: str, leaves: int, comes: int) -> PlanStep:
+    """A step by which a group goes from an OSD to another."""
+    return PlanStep(group, [f"ceph osd pg-upmap-items {group} {leaves} {comes}"], [], [leaves, 90], [comes, 90], False)
+
+
+class Cluster:
+    """Measures of a cluster of one or two pools of equal shares, in place of those of maps."""
+
+    def __init__(self, counts: dict[int, dict[int, int]], share: dict[int, float], sizes: dict[str, float] | None):
+        self.counts, self.sizes, self.aims = counts, sizes, None
+        self.shares = {number: share for number in counts}
+
+    def groups_in(self, number: int) -> Spread:
+        """What OSDs have of a pool."""
+        return Spread(self.counts[number], self.shares[number])
+
+    def groups(self, counts: Any) -> Spread:
+        """What OSDs have of all pools."""
+        osds = {osd for own in counts.values() for osd in own}
+        shares = {osd: sum(own[osd] for own in self.shares.values()) for osd in osds}
+        return Spread({osd: sum(own.get(osd, 0) for own in counts.values()) for osd in osds}, shares)
+
+    def bytes(self, _: object = ()) -> None:
+        """Nothing is known of data."""
+
+    def mean_place(self) -> float:
+        """What a place holds in the mean is not known either."""
+        return 0.0
+
+
+def with_lines(dump: Json, lines: list[str]) -> Json:
+    """An OSD dump with the commands of a plan given, as a monitor dumps it then."""
+    found = copied(dump)
+    items = {own["pgid"]: own["mappings"] for own in found["pg_upmap_items"]}
+    sets = {own["pgid"]: own["osds"] for own in found["pg_upmap"]}
+    for line in lines:
+        _, _, word, group, *numbers = line.split()
+        osds = list(map(int, numbers))
+        if word == "pg-upmap-items":
+            items[group] = [{"from": one, "to": other} for one, other in zip(osds[::2], osds[1::2])]
+        elif word == "pg-upmap":
+            sets[group] = osds
+        else:
+            (items if word == "rm-pg-upmap-items" else sets).pop(group)
+    found["pg_upmap_items"] = [{"pgid": group, "mappings": own} for group, own in items.items()]
+    found["pg_upmap"] = [{"pgid": group, "osds": own} for group, own in sets.items()]
+    return found
+
+
+class PlansEnd(StockCase):
+    """Second plans, moves that cancel, and what gains nothing."""
+
+    def data_of(self, name: str) -> pathlib.Path:
+        """What the pools of a stock cluster hold: drawn, a hundredfold apart."""
+        rng = random.Random(7)
+        held = {pool["pool"]: round(2**40 * 10 ** rng.uniform(-1, 1)) for pool in STOCK[name]["osd_dump"]["pools"]}
+        names = {pool["pool"]: pool["pool_name"] for pool in STOCK[name]["osd_dump"]["pools"]}
+        pools = [
+            {"id": pool, "name": names[pool], "stats": {"bytes_used": size, "stored": size}}
+            for pool, size in held.items()
+        ]
+        return self.tools.put(f"{name}-df", {"stats": {"total_used_raw_bytes": 5}, "pools": pools})
+
+    def test_second_plans(self) -> None:
+        """A plan over dumps with the commands of a plan given has no command, or as many as the first has told."""
+        for name in FEW:
+            df = self.data_of(name)
+            ways: list[list[object]] = [[], ["--alone"], ["--df", df], ["--df", df, "--room"]]
+            for words in ways:
+                own = STOCK[name]
+                output, error = self.ran("plan", *self.dumps(name), *words, "--anyway")
+                dump = with_lines(own["osd_dump"], commands(output))
+                again = dict(own, osd_dump=dump)
+                second = commands(self.output("plan", *self.dumps(name, again), *words, "--anyway"))
+                with self.subTest(name=name, words=words[:1]):
+                    self.assertTrue(output or "nothing to gain" in error)
+                    if "a plan over this one has" not in error:
+                        self.assertEqual(second, [])
+
+    def test_moves_that_cancel(self) -> None:
+        """A cycle of moves of one pool goes, and no other move: of as many bytes, where these are known."""
+        cycle = [step_of("1.0", 1, 2), step_of("1.1", 2, 3), step_of("1.2", 3, 1)]
+        rest = [step_of("1.3", 1, 3), step_of("1.4", 4, 2), step_of("2.0", 2, 4)]
+        counts = {pool: dict.fromkeys(range(1, 5), 3) for pool in (1, 2)}
+        share = dict.fromkeys(range(1, 5), 3.0)
+        without: Any = Cluster(counts, share, None)
+        self.assertEqual(without_cycles(without, cycle + rest), rest)
+        for last, left in ((8.0, rest), (9.0, cycle + rest)):
+            sizes = {**{step.group: 8.0 for step in cycle}, "1.2": last, "1.3": 5.0, "1.4": 6.0, "2.0": 7.0}
+            with_data: Any = Cluster(counts, share, sizes)
+            self.assertEqual(without_cycles(with_data, cycle + rest), left)
+
+    def test_moves_of_two_pools(self) -> None:
+        """Moves of two pools that cancel go where each pool is as even without them, and stay where one is not."""
+        steps = [step_of("1.0", 1, 2), step_of("2.0", 2, 1)]
+        sizes, share = {"1.0": 8.0, "2.0": 8.0}, {1: 3.0, 2: 3.0}
+        even: Any = Cluster({1: {1: 3, 2: 3}, 2: {1: 3, 2: 3}}, share, sizes)
+        self.assertEqual(without_cycles(even, steps), [])
+        uneven: Any = Cluster({1: {1: 5, 2: 1}, 2: {1: 1, 2: 5}}, share, sizes)
+        self.assertEqual(without_cycles(uneven, steps), steps)
+
+    def test_what_gains(self) -> None:
+        """A plan gains where an OSD above its share gives to one below it, and not where two of equal ones change."""
+        cluster: Any = Cluster({1: {1: 5, 2: 1, 3: 3}}, {1: 3.0, 2: 3.0, 3: 3.0}, None)
+        self.assertTrue(gains(cluster, [step_of("1.0", 1, 2)], False))
+        self.assertTrue(gains(cluster, [step_of("1.0", 1, 2)], True))
+        flat: Any = Cluster({1: {1: 4, 2: 3, 3: 3}}, {1: 3.5, 2: 3.5, 3: 3.0}, None)
+        self.assertFalse(gains(flat, [step_of("1.0", 1, 2)], False))
+        self.assertFalse(gains(flat, [step_of("1.0", 1, 2)], True))
+        self.assertFalse(gains(flat, [], False))

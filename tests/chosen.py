@@ -1,0 +1,161 @@
+"""Groups that are chosen to be held or let go, holds that hold nothing, and commands that would change no set."""
+
+from __future__ import annotations
+
+import json
+import pathlib
+from collections.abc import Callable
+
+from tests.ceph_monitor import WORST
+from tests.clusters import Json, commands, copied
+from tests.drains import come_in
+from tests.holds import RECORDS, WEIGHT, lines_in, sets_of
+from tests.tool_cases import StockCase
+
+
+def has_no_order(pairs: list[Json]) -> bool:
+    """Whether pairs lead to one set in whatever order they stand."""
+    return not {pair["from"] for pair in pairs} & {pair["to"] for pair in pairs}
+
+
+class Chosen(StockCase):
+    """`hold` and `release` of some groups."""
+
+    def files(self, record: Json) -> list[pathlib.Path]:
+        """The dumps before and behind a change."""
+        keys = ("osd_dump", "crush_dump", "new_osd_dump", "new_crush_dump")
+        return [self.tools.put(key, record[key]) for key in keys]
+
+    def test_holds(self) -> None:
+        """Of a change the chosen groups are held, as without a choice, and the others are told as left with the sets
+        that they get, which are the monitor's."""
+        record = RECORDS[WEIGHT]
+        files = self.files(record)
+        whole = self.json("hold", *files)
+        was = {group: entry[0] for group, entry in record["up"].items()}
+        new = {**was, **{group: entry[0] for group, entry in record["new_up"].items()}}
+        below = {item["id"] for own in record["crush_dump"]["buckets"] if own["name"] == "h1" for item in own["items"]}
+        wanted: dict[str, tuple[str, Callable[[str], bool]]] = {
+            "--pg": ("2.0,2.1,2.2", lambda group: group in ("2.0", "2.1", "2.2")),
+            "--osd": ("osd.3,4", lambda group: bool({3, 4} & {*was[group]})),
+            "--host": ("h1", lambda group: bool(below & {*was[group]})),
+            "--of-class": ("hdd", lambda group: True),
+            "--of-pool": ("1", lambda group: group.startswith("1.")),
+        }
+        for option, (word, is_chosen) in wanted.items():
+            with self.subTest(option=option):
+                told = self.json("hold", *files, option, word)
+                own = [line for line in whole["commands"] if is_chosen(line.split(" ")[3])]
+                self.assertEqual([line for line in told["commands"] if " rm-" not in line], own)
+                left = {entry["group"]: entry for entry in told["left"]}
+                self.assertFalse([group for group in left if is_chosen(group)])
+                for group, entry in left.items():
+                    self.assertEqual((entry["was"], entry["now"]), (was[group], new[group]), group)
+                    self.assertEqual(entry["step"], "the choice of groups")
+
+    def test_words(self) -> None:
+        """Words that name nothing are told."""
+        record = RECORDS[WEIGHT]
+        files = self.files(record)
+        for option, word, told in (
+            ("--pg", "2.0,9.9", "no group 9.9"),
+            ("--osd", "osd.99", "osd.99: no OSD of the map"),
+            ("--host", "nobody", "nobody: no OSD of the map, nor a bucket"),
+            ("--of-class", "tape", "no OSD of device class tape; there are hdd"),
+            ("--of-pool", "nobody", "no pool nobody"),
+        ):
+            for words in (["hold", *files], ["release", *files[:2]]):
+                self.is_told(self.tools.run(*words, option, word), 1, told, words)
+        self.is_told(self.tools.run("release", *files[:2], "--from", "osd.99"), 1, "osd.99: no OSD of the map", files)
+
+    def test_torn(self) -> None:
+        """Of a cluster some of whose groups are degraded the others are held as ever where the data is told; these stay
+        as they are, and are told. With --anyway they are held too."""
+        record = RECORDS[WEIGHT]
+        files = self.files(record)[2:]
+        torn = sorted(group for group in record["new_up"] if group.endswith("1"))
+        stats = [
+            {
+                "pgid": group,
+                "acting": osds,
+                "state": "active+undersized+degraded" if group in torn else "active+clean+remapped",
+            }
+            for group, (osds, _) in record["up"].items()
+        ]
+        path = self.tools.put("pgs", {"pg_stats": stats})
+        whole = self.json("hold", "--at", path, *files, "--anyway")
+        told = self.json("hold", "--at", path, *files)
+        of_torn = [line for line in whole["commands"] if line.split(" ")[3] in torn]
+        self.assertTrue(of_torn)
+        self.assertEqual(told["commands"], [line for line in whole["commands"] if line not in of_torn])
+        self.assertEqual({entry["group"] for entry in told["left"]}, set(torn))
+        _, error = self.ran("hold", "--at", path, *files)
+        self.assertIn(f"{path}: {len(torn)} groups are degraded or not active: ", error)
+        self.assertIn("; they stay as they are\n", error)
+
+    def held(self) -> tuple[Json, list[pathlib.Path]]:
+        """A cluster whose groups are held behind a change, and its dumps."""
+        record = RECORDS[WEIGHT]
+        dump = dict(
+            record["new_osd_dump"],
+            pg_upmap=[{"pgid": group, "osds": osds} for group, osds in record["kept"]["pg_upmap"]],
+            pg_upmap_items=[
+                {"pgid": group, "mappings": [{"from": was, "to": now} for was, now in pairs]}
+                for group, pairs in record["kept"]["pg_upmap_items"]
+            ],
+        )
+        return dump, [self.tools.put("held", dump), self.tools.put("crush", record["new_crush_dump"])]
+
+    def test_releases(self) -> None:
+        """Of held groups the chosen ones are let go as all would be; with --from those that leave an OSD then."""
+        _, files = self.held()
+        whole = self.json("release", *files)["parts"][0]["commands"]
+        record = RECORDS[WEIGHT]
+        was = {**{group: entry[0] for group, entry in record["up"].items()}}
+        was.update({group: entry[0] for group, entry in record["held_up"].items()})
+        bare = copied(record["new_osd_dump"])
+        bare["pg_upmap"], bare["pg_upmap_items"] = [], []
+        value = self.output("import", self.tools.put("bare", bare), files[1])
+        to = sets_of(self.tools.sets(json.loads(value), "--stock"))
+        for option, word, wanted in (
+            ("--osd", "osd.5", [group for group in was if 5 in was[group]]),
+            ("--pg", "2.0,2.1", ["2.0", "2.1"]),
+            ("--from", "osd.5", [group for group in was if 5 in {*was[group]} - {*to[group]}]),
+        ):
+            with self.subTest(option=option):
+                told = self.json("release", *files, option, word)
+                lines = [line for part in told["parts"] for line in part["commands"]]
+                self.assertEqual(sorted(lines), sorted(line for line in whole if line.split(" ")[3] in wanted))
+                self.assertTrue(lines)
+        own = {"osd_dump": record["new_osd_dump"]}
+        moved = {group: to[group] for group in wanted}
+        self.assertFalse({osd for _, osd in come_in(own, was, {**was, **moved})} & {5})
+
+    def test_nothing(self) -> None:
+        """Where nothing can be held, that is told first, with what can be, and there is no script; the way back is
+        put out all the same."""
+        own = WORST["affinity"]
+        files = [self.tools.put("o", own["osd_dump"]), self.tools.put("c", own["crush_dump"])]
+        for words, told in (
+            (["--weight", "h1=0"], "a weight of 0.0001 in place of 0 can be held: `drain` begins with it"),
+            (["--out", "h1"], "hold before out: a weight of 0.0001 can be held: `drain` begins with it"),
+        ):
+            output, error = self.ran("hold", *files, *words, status=1)
+            first, second, *_ = error.splitlines()[-4:]
+            self.assertEqual(output, "")
+            self.assertTrue(first.startswith("nothing is held: of ") and first.endswith(" none can be"), first)
+            self.assertStarts(second, told)
+        self.assertEqual(self.json("hold", *files, "--weight", "h1=0.0001")["left"], [])
+
+    def test_idle_commands(self) -> None:
+        """Pairs that lead to the set that a group has are left as they are, in whatever order they stand."""
+        dump, files = self.held()
+        two = [own for own in dump["pg_upmap_items"] if len(own["mappings"]) > 1 and has_no_order(own["mappings"])]
+        self.assertTrue(two)
+        for own in two:
+            own["mappings"].reverse()
+        turned = self.tools.put("turned", dump)
+        for path in (files[0], turned):
+            output, error = self.ran("hold", path, files[1], path, files[1])
+            self.assertEqual(lines_in(output), [], error)
+            self.assertEqual(commands(output), [])

@@ -1,0 +1,194 @@
+"""`drain`: empties OSDs, or all OSDs below a bucket, as the commands that Ceph takes, in scripts from beginning to end.
+
+The first script gives them next to no weight and holds every group where it is, so that nothing moves. The parts then
+move what lies on them, and nothing else: each group once, straight to where it can stay, which is the emptiest OSD that
+may have it, or with --even where `plan` has it. No part brings a place to an OSD that is drained. The last script takes
+them out, which moves nothing any more.
+
+Standard error tells beforehand what moves, how full OSDs get, and which groups cannot be held. Where a pool would be
+short without these OSDs, the groups are told with the reason, and nothing is put out. With --undo the same words give
+the way back, whichever script was run. The program judges each script as printed, as it does for `hold` and `release`.
+"""
+
+from __future__ import annotations
+
+import sys
+from dataclasses import dataclass
+
+from ..cluster.cluster import Cluster
+from ..cluster.imports import imported
+from ..cluster.reports import with_both
+from ..cluster.sources import Source
+from ..cluster.view import ClusterView
+from ..faults import Fault, Misuse
+from ..output.drain_words import (
+    FIRST,
+    LAST,
+    KEEPING,
+    WORD,
+    drain_lines,
+    first_script,
+    last_script,
+    part_scripts,
+    undo_script,
+)
+from ..output.json_output import put_json
+from ..output.origins import Origin, origin_of
+from ..output.plan_scripts import part_file, put_scripts
+from ..plans.drain import Drain, DrainWish, drain_of
+from ..plans.drain_checks import check_once
+from ..plans.hold_checks import check_still, moving_words
+from ..plans.movement import place_bytes
+from ..program.maps import Program
+from ..values import SLOTS
+from .arguments import Arguments, Commands, add_dump_options, add_guard, add_json, set_work, source_of
+from .part_words import PartWords, add_part_words, part_words
+from .plan import commands_a_file
+from .whatif_words import IN_FORCE, osds_named
+
+
+@dataclass(frozen=True, **SLOTS)
+class DrainOptions:
+    """The dumps of the cluster; the words that name what is drained; whether places keep their device class; whether
+    groups go to where a plan has them; whether a cluster that moves is drained too; and how it is put out: as the way
+    back, how large its parts are, in files of a folder, as JSON, or without guards.
+    """
+
+    source: Source
+    words: tuple[str, ...]
+    is_kept: bool
+    is_even: bool
+    is_anyway: bool
+    is_undo: bool
+    parts: PartWords
+    to: str | None
+    is_json: bool
+    is_guarded: bool
+
+
+def options_of(arguments: Arguments) -> DrainOptions:
+    """The options of the command line. An error of use for options of which one would be passed over."""
+    own = arguments
+    own.words = [*with_both(own.words[:1]), *own.words[1:]]
+    if len(own.words) < 3:
+        raise Misuse("drain takes the two dumps of a cluster, and the OSDs or buckets behind them")
+    if own.batch is not None and own.to is None and not own.json:
+        raise Misuse("--batch goes with --to: files of so many commands, and their folder")
+    if own.json and (own.to is not None or own.undo):
+        raise Misuse("--json tells the scripts and their undoing at once: --to and --undo do not go with it")
+    words = tuple(part for word in own.words[2:] for part in word.split(","))
+    twice = next((word for at, word in enumerate(words) if word in words[:at]), None)
+    if twice is not None:
+        raise Misuse(f"{twice} is named twice")
+    source = source_of(own, own.words[:2])
+    parts = part_words(own, own.to is not None or own.json or own.undo, "--to")
+    forms = own.keep_class, own.even, own.anyway, own.undo, parts, own.to, own.json, not own.no_guard
+    return DrainOptions(source, words, *forms)
+
+
+def osds_of(view: ClusterView, words: tuple[str, ...]) -> list[int]:
+    """The OSDs that words name, each once. A fault where there are none, or one is named twice."""
+    tree = view.named_tree()
+    found = [osds_named(tree, view.names, word) for word in words]
+    check_once(words, found)
+    return sorted(osd for own in found for osd in own)
+
+
+def drained(options: DrainOptions) -> tuple[Drain, Cluster]:
+    """How the OSDs are drained, and the cluster. A fault where they cannot be."""
+    found, program = imported(options.source.dumps()), options.source.program
+    cluster = found.cluster
+    if cluster.has_weight_set:
+        raise Fault(f"{IN_FORCE}: `ceph osd crush weight-set rm-compat` first; nothing is drained")
+    check_still(moving_words(cluster, program), options.is_anyway, "drained")
+    view = ClusterView(found.maps, cluster.all_names(), found)
+    osds = osds_of(view, options.words)
+    wish = DrainWish(osds, options.is_kept, options.is_even, options.parts.size(cluster))
+    return drain_of(cluster, wish, program), cluster
+
+
+def files_of(found: Drain, cluster: Cluster, program: Program, origin: Origin) -> dict[str, str]:
+    """The scripts by the names of their files, once the program has judged each as printed."""
+    # Behind the first one the CRUSH map is another one.
+    later, names = origin.later(None), cluster.all_names()
+    first, parts, last = first_script(found, origin), part_scripts(found, names, later), last_script(found, later)
+    found.check_stage(found.begin, first, KEEPING, program)
+    found.check_parts(parts)
+    found.check_stage(found.end, last, KEEPING, program)
+    numbered = {part_file(WORD, number, len(parts)): text for number, text in enumerate(parts, 1)}
+    return {FIRST: first, **numbered, LAST: last}
+
+
+def put_drain_json(found: Drain, origin: Origin) -> None:
+    """Puts out the scripts' commands, what they move and the way back as one object."""
+    weights = place_bytes(found.pools, None)
+    begin, end = found.begin, found.end
+    put_json(
+        "drain",
+        found.epoch,
+        osds=found.osds,
+        places=found.places,
+        moving=weights.moving(found.steps),
+        fullest={"before": found.before.fill(), "after": found.after.fill()},
+        begin={"change": begin.change, "commands": begin.hold.commands, "left": begin.hold.told()["left"]},
+        parts=[
+            {
+                "commands": [line for step in part for line in step.commands],
+                "moving": weights.moving(part),
+                "peak": peak,
+            }
+            for part, peak in zip(found.parts, found.peaks)
+        ],
+        end={"change": end.change, "commands": end.hold.commands, "left": end.hold.told()["left"]},
+        waiting=[{"group": group, "step": why.step, "why": why.why} for group, why in found.waiting.items()],
+        undo={"change": found.undo.change, "commands": found.undo.commands},
+        **origin.parts(),
+    )
+
+
+def work(options: DrainOptions) -> None:
+    """Tells how OSDs are drained."""
+    found, cluster = drained(options)
+    source = options.source
+    origin = origin_of(source.program, [*source.paths, source.tree], cluster, options.is_guarded)
+    files, back = files_of(found, cluster, source.program, origin), undo_script(found, origin.later(None))
+    found.undo.check(back, KEEPING)
+    print("\n".join(drain_lines(found, cluster.all_names())), file=sys.stderr)
+    if options.is_json:
+        put_drain_json(found, origin)
+        return
+    word, files = ("undo", {part_file("undo", 1, 1): back}) if options.is_undo else (WORD, files)
+    if options.to is None:
+        print("".join(files.values()), end="")
+    else:
+        put_scripts(options.to, word, files)
+
+
+def add_to(commands_of: Commands) -> None:
+    """The subcommand."""
+    own = commands_of.add_parser("drain", help="drains OSDs or hosts, part by part", description=__doc__)
+    own.usage = (
+        "%(prog)s OSD_DUMP CRUSH_DUMP OSD|BUCKET.. [--to FOLDER [--batch N] [--osd-most M] [--host-most M]] [--even] "
+        "[--keep-class] [--anyway] [--undo] [--no-guard] [--json] [--pools ID|NAME,..] [--tree FILE] [--unmatched]"
+    )
+    own.add_argument(
+        "words",
+        metavar="OSD_DUMP CRUSH_DUMP OSD|BUCKET",
+        nargs="+",
+        help="what `ceph osd dump -f json` and `ceph osd crush dump` print, and what is drained: OSDs, or buckets for "
+        "all OSDs below them",
+    )
+    own.add_argument("--even", action="store_true", help="to where `plan` of the cluster without them has the groups")
+    own.add_argument("--keep-class", action="store_true", help="each place stays on OSDs of its device class")
+    own.add_argument("--anyway", action="store_true", help="also where the cluster moves already, or amid an outage")
+    own.add_argument("--undo", action="store_true", help="the way back to the dumps, whichever script was run")
+    own.add_argument("--batch", metavar="N", type=commands_a_file, help="parts of at most N commands each")
+    own.add_argument(
+        "--to", metavar="FOLDER", help="the folder of the scripts: drain-000.sh, drain-001.sh, .. and drain-end.sh"
+    )
+    add_part_words(own)
+    add_dump_options(own)
+    add_guard(own)
+    add_json(own)
+    own.set_defaults(names=None)
+    set_work(own, options_of, work)

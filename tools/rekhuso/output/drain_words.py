@@ -1,0 +1,139 @@
+"""How OSDs are emptied, in words and as scripts."""
+
+from __future__ import annotations
+
+from ..cluster.names import Names
+from ..plans.drain import Drain
+from ..plans.drain_checks import osds_listed
+from ..plans.drain_stages import Stage
+from ..plans.guards import AT_COMMANDS
+from ..plans.holding import Held
+from ..plans.movement import place_bytes
+from ..words import counted, some
+from .fill_words import fill_words
+from .flow_words import move_words
+from .hold_words import BEGIN, ENDING
+from .origins import Origin
+from .plan_scripts import Script, WATCH, balancer_words, client_words, comments, part_file
+
+# What the files of a drain are named by, and the names of those before and behind its parts.
+WORD, FIRST, LAST = "drain", "drain-000.sh", "drain-end.sh"
+# The lines of a script of a change that are no commands on exceptions.
+KEEPING = [*BEGIN, AT_COMMANDS, *ENDING]
+UNDO = "undo:   the same words with --undo, over the same files, which are to be kept: whichever script was run"
+NEXT = [
+    "after:  nothing moves: ceph status tells no misplaced group; then the parts in their order, each once the groups",
+    "        of the one before have moved",
+]
+GONE = "after:  once ceph osd safe-to-destroy tells so: ceph osd purge, or the disk is replaced"
+
+
+def osds_in(found: Drain) -> str:
+    """The OSDs that are emptied."""
+    return some([f"osd.{osd}" for osd in found.osds], 6)
+
+
+def lost_words(left: list[Held]) -> list[str]:
+    """The groups that move at once, by the reasons."""
+    by_step: dict[str, list[Held]] = {}
+    for own in left:
+        by_step.setdefault(own.why.step if own.why else "", []).append(own)
+    return [
+        f"{counted(len(groups), 'group')} cannot be held: "
+        f"{counted(sum(len(own.lost()) for own in groups), 'place')} of theirs come elsewhere, "
+        f"by {step}: {some([own.group for own in groups])}"
+        for step, groups in sorted(by_step.items(), key=lambda one: (-len(one[1]), one[0]))
+    ]
+
+
+def waiting_words(found: Drain) -> list[str]:
+    """The groups that go in the end alone, by the reasons."""
+    by_step: dict[str, list[str]] = {}
+    for group, why in found.waiting.items():
+        by_step.setdefault(why.step, []).append(group)
+    return [
+        f"{counted(len(groups), 'group')} cannot go before the end, by {step}: {some(groups)}"
+        for step, groups in sorted(by_step.items(), key=lambda one: (-len(one[1]), one[0]))
+    ]
+
+
+def drain_lines(found: Drain, names: Names) -> list[str]:
+    """What a drain moves, how full OSDs get, and which groups cannot be held or go."""
+    steps = [step for step in found.steps if step.is_moving()]
+    come = sum(len(step.places_come()) for step in steps)
+    parts = counted(len(found.parts), "part")
+    lie = f"{counted(found.places, 'place')} of groups lie{'s' if found.places == 1 else ''} on {osds_in(found)}"
+    lines = [
+        f"{lie}; {move_words(len(steps), come)} in {parts}, each group once"
+        if found.places
+        else f"nothing lies on {osds_in(found)}"
+    ]
+    lines += [f"at once, by {FIRST}: {line}" for line in lost_words(found.begin.hold.left())]
+    lines += waiting_words(found)
+    lines += [f"in the end, by {LAST}: {line}" for line in lost_words(found.end.hold.left())]
+    peak = max((own for own in found.peaks if own["osd"] is not None), key=lambda own: own["groups"], default=None)
+    lines.append(f"by the shares without them: {fill_words(found.before.fill(), names)}, before")
+    lines.append(f"by the shares without them: {fill_words(found.after.fill(), names)}, after")
+    if peak is not None:
+        lines.append(f"meanwhile osd.{peak['osd']} has {counted(peak['groups'], 'group')}, where none has gone yet")
+    return lines
+
+
+def stage_script(title: str, notes: list[str], stage: Stage, origin: Origin) -> str:
+    """The script of a change that keeps data where it is."""
+    lines = [*BEGIN, *stage.change, AT_COMMANDS, *stage.hold.commands, *ENDING]
+    above = comments([title, *origin.notes(), *client_words(stage.hold.client), *notes])
+    return "\n".join([*above, "set -e", *origin.guards.lines(stage.hold.commands), *lines]) + "\n"
+
+
+def first_script(found: Drain, origin: Origin) -> str:
+    """The script with which a drain begins."""
+    hold = found.begin.hold
+    held, moving = hold.told()["held"], hold.told()["groups"]
+    title = (
+        f"Drains {osds_in(found)} over epoch {found.epoch}, the beginning: next to no weight, and {held} of {moving} "
+        f"groups held that would move, by {counted(len(hold.commands), 'command')}"
+    )
+    return stage_script(title, [*NEXT, UNDO], found.begin, origin)
+
+
+def last_script(found: Drain, origin: Origin) -> str:
+    """The script with which a drain ends."""
+    title = f"Drains {osds_in(found)} over epoch {found.epoch}, the end: of no weight and out, which moves "
+    left = found.end.hold.left()
+    title += f"{counted(len(left), 'group')}" if left else "nothing"
+    order = "order:  all parts are run before"
+    return stage_script(title, [order, GONE, UNDO], found.end, origin)
+
+
+def part_scripts(found: Drain, names: Names, origin: Origin) -> list[str]:
+    """The scripts of the parts."""
+    weights, count, texts = place_bytes(found.pools, None), len(found.parts), []
+    for number, part in enumerate(found.parts, 1):
+        peak, words = found.peaks[number - 1], "no OSD gets a place"
+        if peak["osd"] is not None:
+            words = f"of the OSDs that get places osd.{peak['osd']} has most groups meanwhile, {peak['groups']}"
+        before = part_file(WORD, number - 1, count) if number > 1 else FIRST
+        notes = [
+            *balancer_words(None),
+            *client_words(found.begin.hold.client),
+            *WATCH,
+            f"peak:   {words}, where none has gone yet",
+            f"order:  {before} is run before" + (", and its groups have moved" if number > 1 else ""),
+            "stop:   give no further part",
+            UNDO,
+        ]
+        title = f"Drains {osds_in(found)} over epoch {found.epoch}, part {number} of {count}"
+        texts.append(Script(title, notes, weights, names, origin).text(part))
+    return texts
+
+
+def undo_script(found: Drain, origin: Origin) -> str:
+    """The script of the way back."""
+    title = f"The way back from draining {osds_listed(found.osds)} over epoch {found.epoch}, whichever script was run"
+    notes = [
+        "after:  these OSDs have their weights and all groups the exceptions of that epoch; what has moved comes back"
+    ]
+    lines = [*BEGIN, *found.undo.change, AT_COMMANDS, *found.undo.commands, *ENDING]
+    guards = origin.guards.lines(found.undo.commands)
+    return "\n".join([*comments([title, *origin.notes(), *notes]), "set -e", *guards, *lines]) + "\n"

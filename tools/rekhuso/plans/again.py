@@ -1,0 +1,70 @@
+"""What a plan has left, as a second plan over it would find it: the same maps and sessions once its commands are given.
+
+A plan goes on until a plan over what it has made is empty. What all of them have made is told as one.
+"""
+
+from __future__ import annotations
+
+from collections.abc import Mapping
+from dataclasses import replace
+from typing import Any
+
+from ..cluster.disks import Disk
+from ..cluster.pool_data import Data
+from ..program.maps import Change, Exceptions, Map, altered, entries_of, group_key
+from .rounds import Live
+from .step_order import has_after
+from .steps import PlanStep, change_by, in_old_order, steps_of
+
+KEYS = (("upmap", "pg_upmap"), ("items", "pg_upmap_items"))
+
+
+def excepted(value: Exceptions, change: Change) -> Exceptions:
+    """The exceptions of a map once a change is made."""
+    found: dict[str, Any] = {}
+    for word, key in KEYS:
+        own = {group: entry for group, entry in entries_of(value, key) if group not in change[f"old_{word}"]}
+        own.update(dict(change[f"new_{word}"]))
+        found[key] = [[group, own[group]] for group in sorted(own, key=group_key)]
+    return altered(value, **found)
+
+
+def bring(live: Live, value: Map) -> None:
+    """Brings a session to a map that has other exceptions, or other OSDs that are down."""
+    now, change = live.session.dump(), dict[str, object]()
+    for word, key in KEYS:
+        was, wanted = dict(entries_of(now, key)), dict(entries_of(value, key))
+        change[f"old_{word}"] = [group for group in was if group not in wanted]
+        change[f"new_{word}"] = [[group, own] for group, own in wanted.items() if was.get(group) != own]
+    is_up = {osd["id"]: osd["up"] for osd in now["osds"]}
+    change["down"] = [osd["id"] for osd in value["osds"] if is_up[osd["id"]] and not osd["up"]]
+    live.session.change(None, **change)
+
+
+def after(live: Live, steps: list[PlanStep]) -> Live:
+    """A map with its session once the commands of those of some steps are given that are for its groups."""
+    own = [step for step in steps if step.pool in live.pools]
+    change = change_by([line for step in own for line in step.commands])
+    value = altered(live.value, **excepted(live.value, change))
+    bring(live, value)
+    found = Live(value, excepted(live.kept, change), live.names, live.judge, live.session)
+    found.is_by_weight, found.alone = live.is_by_weight, live.alone
+    return found
+
+
+def moved_data(data: Data, sizes: Mapping[str, float] | None, steps: list[PlanStep]) -> Data:
+    """What a cluster holds once some steps are taken: its disks, where they are known, have other bytes in use."""
+    if not data.disks:
+        return data
+    has = has_after({osd: disk.used for osd, disk in data.disks.items()}, sizes, steps)
+    disks = {
+        osd: Disk(disk.size, round(has[osd]), disk.free + disk.used - round(has[osd]))
+        for osd, disk in data.disks.items()
+    }
+    return replace(data, disks=disks)
+
+
+def steps_between(first: Live, last: Live) -> list[PlanStep]:
+    """The steps from a map to what it is after several plans."""
+    new = in_old_order(first.value, last.value)
+    return steps_of(first.value, first.kept, new, first.before.ups, last.before.ups)

@@ -1,0 +1,56 @@
+"""That the answers of the program are those of the questions."""
+
+from __future__ import annotations
+
+import re
+from collections.abc import Iterable
+
+from ..faults import Trouble
+
+# Look-ups at the map as it is, whose answers have its epoch and what was asked of; and with those at the follower's map
+# the form of what follows.
+LOOKS = ("up", "count", "groups")
+SET = re.compile(r"\[(?:(?:none|[0-9]+)(?:,(?:none|[0-9]+))*)?\] (?:-1|[0-9]+)")
+FORMS = {
+    "up": SET,
+    "fup": SET,
+    "count": re.compile("[0-9]+"),
+    "groups": re.compile(r"\[[0-9a-f.,]*\]"),
+    "fkept": re.compile("all|fewer|gone"),
+}
+
+
+class Agreement:
+    """What a session's answers must have of its questions: the group or the OSD that was asked of, and an epoch. The
+    epochs of answers never go back; where nobody else changes the map they are those of this session's own changes.
+    """
+
+    def __init__(self) -> None:
+        """Begins with no epoch."""
+        self.epoch, self.is_alone = 0, False
+
+    def check(self, lines: Iterable[str], answers: Iterable[str]) -> None:
+        """A fault at the first answer that is none of its line."""
+        for line, answer in zip(lines, answers):
+            word, _, asked = line.partition(" ")
+            if word in FORMS and not answer.startswith("err "):
+                self.check_look(word, asked, answer)
+            elif answer.startswith(("ok ", "moved ")):
+                words = answer.split(" ")
+                self.epoch = number_in(words[1] if words[0] == "ok" else words[-1]) or self.epoch
+
+    def check_look(self, word: str, asked: str, answer: str) -> None:
+        """A fault where an answer is none of a look-up."""
+        found = answer.split(" ", 3)
+        is_its = len(found) == 4 and found[0] == word and found[2] == asked and FORMS[word].fullmatch(found[3])
+        epoch = number_in(found[1]) if is_its else None
+        if epoch is None or word in LOOKS and (epoch < self.epoch or self.is_alone and 0 < self.epoch < epoch):
+            at = f" at epoch {self.epoch}" if self.epoch else ""
+            raise Trouble(f"another program: to {f'{word} {asked}'[:60]!r}{at} it answers {answer[:60]!r}")
+        if word in LOOKS:
+            self.epoch = epoch
+
+
+def number_in(word: str) -> int | None:
+    """The number that a word is; None where it is none."""
+    return int(word) if word.isdigit() and len(word) <= 20 else None
