@@ -300,7 +300,8 @@ class Pages(Case):
         self.assertIn(f"{shown}\n    {{\n", source)
 
     def test_names(self) -> None:
-        """A name that a page says between backticks stands in a file, is of others, or is that of a wrong body"""
+        """A name that a page says between backticks stands in a file, is of others, or is that of a wrong body; but for
+        the page that lists what the kit has"""
         forms = [
             (folder, end)
             for folder in ("crates", "tests", "tools", "bench")
@@ -319,7 +320,7 @@ class Pages(Case):
                 for part in [text("crates.txt"), *wrong, *(f"{path.stem} {path.read_text('utf-8')}" for path in files)]
             )
         )
-        for page in pages():
+        for page in (page for page in pages() if page != RESULTS / "trust.md"):
             said = re.findall(r"\w+", " ".join(re.findall("`[^`\n]+`", page.read_text("utf-8"))))
             unknown = {name for name in said if re.match("[A-Z][a-z]+[A-Z]|.*_.", name) and name not in known}
             self.assertFalse(unknown, (page.name, unknown))

@@ -13,8 +13,8 @@ from tests.cases import HERE, TOP, Case
 from tests.packaged import ran
 
 TOOLS, BENCH = TOP / "tools", TOP / "bench"
-# Without the cache of another run types take long.
-SECONDS = 300
+# Without the cache of another run types take long, and beside proofs all of it does.
+SECONDS = 600
 # How many times a type of the tools may be told as `Any`, which says nothing.
 ANYS = 60
 OWN = [*sorted(TOOLS.glob("*.py")), *sorted((TOOLS / "rekhuso").rglob("*.py"))]
@@ -61,14 +61,14 @@ class PythonFiles(Case):
     def test_format(self) -> None:
         """`black`, as pyproject.toml of the tools sets it, finds nothing to do."""
         self.needs("black 23", has_black())
-        status, told = ran(["black", "--check", "--config", TOOLS / "pyproject.toml", *FILES])
+        status, told = ran(["black", "--check", "--config", TOOLS / "pyproject.toml", *FILES], seconds=SECONDS)
         self.assertEqual(status, 0, told[-600:])
 
     def test_names(self) -> None:
         """pyflakes finds nothing: no name is imported or set in vain, and none is used that nothing sets."""
         flakes = next((name for name in ("pyflakes3", "pyflakes") if shutil.which(name)), "")
         self.needs("pyflakes (Debian: pyflakes3)", flakes != "")
-        self.assertEqual(ran([flakes, *FILES]), (0, ""))
+        self.assertEqual(ran([flakes, *FILES], seconds=SECONDS), (0, ""))
 
     def test_docstrings(self) -> None:
         """Every module, class and function of the tools has its docstring."""
