@@ -45,16 +45,16 @@ except KeyboardInterrupt:
     print("interrupted", signal.getsignal(signal.SIGINT) is before)
 """
 
-# Runs a command, and has Ctrl-C come at an import by its number behind the first words of the tools.
+# Runs a command, and has Ctrl-C come at an import by its number, the first of which are what is part of Python.
 BROUGHT_IN = """
 import builtins, runpy, signal, sys
 tools, wanted, sys.argv = sys.argv[1], int(sys.argv[2]), ["rekhuso", *sys.argv[3:]]
-brought, count = builtins.__import__, 0
+brought, count, is_ours = builtins.__import__, 0, False
 
 def counted(*words, **more):
-    global count
-    if signal.getsignal(signal.SIGINT) is not signal.default_int_handler or count:
-        count += 1
+    global count, is_ours
+    is_ours = is_ours or words[0] == "_signal"
+    count += is_ours and words[0] != "_signal"
     if count == wanted:
         signal.raise_signal(signal.SIGINT)
     return brought(*words, **more)
@@ -140,6 +140,21 @@ class Interrupts(ToolCase):
                 words += ["--program", str(self.tools.program)]
                 done = subprocess.run(words, capture_output=True, text=True, timeout=SECONDS)
                 self.assertIn((done.returncode, done.stderr), [(-2, ""), (-2, "interrupted\n")])
+
+    def test_interrupts_by_time(self) -> None:
+        """Ctrl-C at any time ends the command by the signal, once the tools have their first word, or is too late.
+        What Python tells that it ends before has no line of theirs."""
+        words = [sys.executable, "-B", str(TOOLS), "df", str(EXAMPLE), "--program", str(self.tools.program)]
+        for after in range(0, 300, 5):
+            with self.subTest(after=after):
+                done = subprocess.Popen(words, stdout=subprocess.PIPE, stderr=subprocess.PIPE, text=True)
+                time.sleep(after / 1000)
+                done.send_signal(signal.SIGINT)
+                output, error = done.communicate(timeout=SECONDS)
+                if "KeyboardInterrupt" in error:
+                    self.assertNotIn(str(TOOLS.name), error)
+                else:
+                    self.assertIn((done.returncode, error), [(-2, ""), (-2, "interrupted\n"), (0, "")], output)
 
     def test_ends_from_outside(self) -> None:
         """A command or a shell that SIGTERM or SIGHUP ends tells nothing, and leaves no program and no folder

@@ -357,6 +357,9 @@ class Packaged(Case):
                 wanted = set(re.findall(r"(?m)^  (?:-h, )?(--[a-z-]+)", told))
                 found = set(re.findall(r"(?m)^\.TP\n(?:\\fB\\-h\\fR, )?\\fB(\S+)\\fR", pages[name]))
                 self.assertEqual({option.replace("\\-", "-") for option in found}, wanted)
+        table = re.findall(r"(?m)^\| ([0-9, ]+) \|[^|]+\|[^|]+\|$", (TOP / "docs" / "CEPH.md").read_text())
+        statuses = re.findall(r"(?m)^\.TP\n([0-9, ]+)$", "".join(pages.values()))
+        self.assertEqual(set(", ".join(statuses).split(", ")), set(", ".join(table).split(", ")))
         self.needs("man", shutil.which("man") is not None)
         for name, text in pages.items():
             with self.subTest(name=name), tempfile.TemporaryDirectory() as folder:

@@ -7,6 +7,16 @@ program's maps, sessions and answers; `output/` tables, JSON forms, pictures, sc
 
 import sys
 
+if sys.argv[:1] == ["-m"]:
+    # What __main__.py does first, which Python brings in behind this.
+    FIRST = __import__("_signal")
+    try:
+        if FIRST.getsignal(FIRST.SIGINT) is FIRST.default_int_handler:
+            FIRST.signal(FIRST.SIGINT, FIRST.SIG_DFL)
+    except KeyboardInterrupt:
+        FIRST.signal(FIRST.SIGINT, FIRST.SIG_DFL)
+        FIRST.raise_signal(FIRST.SIGINT)
+
 # This file and __main__.py have no word that an older Python does not read, so that it comes to the sentence.
 if sys.version_info < (3, 9):
     OLDER = "rekhuso needs Python 3.9 or later, and this is Python %d.%d.%d" % tuple(sys.version_info[:3])

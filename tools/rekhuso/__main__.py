@@ -5,11 +5,16 @@ once and in silence; what it does later stands in `command_line.py`.
 """
 
 import os
-import signal
 import sys
 
-if signal.getsignal(signal.SIGINT) is signal.default_int_handler:
-    signal.signal(signal.SIGINT, signal.SIG_DFL)
+# First of all, and by what is part of Python: each module more that came in before would be one more to be interrupted.
+FIRST = __import__("_signal")
+try:
+    if FIRST.getsignal(FIRST.SIGINT) is FIRST.default_int_handler:
+        FIRST.signal(FIRST.SIGINT, FIRST.SIG_DFL)
+except KeyboardInterrupt:
+    FIRST.signal(FIRST.SIGINT, FIRST.SIG_DFL)
+    FIRST.raise_signal(FIRST.SIGINT)
 
 if not __package__:
     # Run by the folder's name, Python looks for modules in the folder, and the package stands one above.

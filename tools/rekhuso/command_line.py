@@ -1,8 +1,8 @@
 """The command line: one parser with a subcommand for each module that has `add_to` and `work`, and what a command ends
 with.
 
-Status 0: the work is done. Status 1: no; something was refused. Status 2: the command was used wrongly, a file cannot
-be read or written, or the program is not there. Status 3: too little was told to say anything. Status 10 and 11 are of
+Status 0: the work is done. Status 1: no; something was refused. Status 2: nothing can be said; the command was used
+wrongly, a file cannot be read or written, or the program is not there. Status 3 is of `verify`, 10 and 11 are of
 `next`. Status 70: a defect of the tools. Status 143 or 129: the command was ended from outside. Ctrl-C ends it as the
 signal ends any program, so that the loop of a shell ends too.
 """
@@ -17,6 +17,7 @@ import os
 import pathlib
 import signal
 import sys
+from collections.abc import Callable
 from types import FrameType
 from typing import NoReturn
 
@@ -126,10 +127,16 @@ def end_by_signal(number: int, _: FrameType | None) -> NoReturn:
     raise Ended(number)
 
 
+def set_interrupt(old: object, new: signal.Handlers | Callable[[int, FrameType | None], object]) -> bool:
+    """Has SIGINT do another thing, where it does what it is to have done till now: whether it did."""
+    is_so = signal.getsignal(signal.SIGINT) is old
+    if is_so:
+        signal.signal(signal.SIGINT, new)
+    return is_so
+
+
 def set_signals() -> None:
     """Has the command end in order by those signals that are not held back."""
-    if signal.getsignal(signal.SIGINT) is signal.SIG_DFL:
-        signal.signal(signal.SIGINT, signal.default_int_handler)
     for number in ENDING:
         if signal.getsignal(number) is signal.SIG_DFL:
             signal.signal(number, end_by_signal)
@@ -177,11 +184,14 @@ def main() -> int:
     # A command soon ends, and needs what it has made until then.
     gc.disable()
     try:
+        is_ours = set_interrupt(signal.SIG_DFL, signal.default_int_handler)
         lines, status = done()
         if lines:
             print("\n".join(lines), file=sys.stderr)
         with contextlib.suppress(OSError, AttributeError):
             put_out()
+        # All is told; while Python ends, Ctrl-C is again what it was while Python began.
+        set_interrupt(signal.default_int_handler if is_ours else None, signal.SIG_DFL)
         return status
     except KeyboardInterrupt:
         signal.signal(signal.SIGINT, signal.SIG_IGN)

@@ -9,32 +9,34 @@ from .commands import EXAMPLES
 from .completions import bash, zsh
 from .uses import Option, Use, option_groups, options_in, top, uses
 
-STATUS = """.SH EXIT STATUS
-.TP
-0
-The work is done.
-.TP
-1
-No: something was refused.
-.TP
-2
-The command was used wrongly, a file cannot be read or written, or the program is not there.
-.TP
-3
-Too little was told to say anything.
-.TP
-70
-A defect of the tools.
-.TP
-143, 129
-The command was ended from outside, by SIGTERM or SIGHUP.
-"""
+# The statuses of all commands, and those of single ones, as the pages of Ceph's people have them too (docs/CEPH.md).
+STATUSES = (
+    ("0", "The work is done."),
+    ("1", "No: a map, a change, a cluster or a plan is refused, or something is not as it is to be."),
+    (
+        "2",
+        "Nothing can be said: words mean nothing, a file cannot be read or written or is another than was asked for, "
+        "the program is not there, is another or has gone, or there is no memory.",
+    ),
+    ("70", "A defect of the tools, which is to be reported."),
+    ("143, 129", "The command was ended from outside, by SIGTERM or SIGHUP; SIGINT ends it by the signal."),
+)
+OWN_STATUSES = {
+    "verify": (("3", "The cluster tells of fewer than 90 % of the groups where they lie."),),
+    "next": (("10", "Commands are put out."), ("11", "Nothing may be given now: what is under way comes first.")),
+}
 
 
 def roff(text: str) -> str:
     """A text whose signs stand for themselves."""
     found = text.replace("\\", "\\e").replace("-", "\\-").replace("'", "\\(aq").replace("`", "\\(ga")
     return f"\\&{found}" if found.startswith(".") else found
+
+
+def status_text(command: str = "") -> str:
+    """What the statuses of a command mean, or those of all."""
+    told = sorted([*STATUSES, *OWN_STATUSES.get(command, ())], key=lambda own: int(own[0].split(",")[0]))
+    return ".SH EXIT STATUS\n" + "".join(f".TP\n{status}\n{roff(text)}\n" for status, text in told)
 
 
 def head(name: str, about: str) -> str:
@@ -81,7 +83,8 @@ def page(use: Use) -> str:
     return (
         head(f"rekhuso-{use.name}", use.about)
         + f".SH SYNOPSIS\n{forms}.SH DESCRIPTION\n{paragraphs(use.parser.description or '')}{options_text(use)}"
-        + f".SH EXAMPLES\n{paragraphs('    rekhuso ' + EXAMPLES[use.name])}{STATUS}.SH SEE ALSO\n.BR rekhuso (1)\n"
+        + f".SH EXAMPLES\n{paragraphs('    rekhuso ' + EXAMPLES[use.name])}{status_text(use.name)}"
+        + ".SH SEE ALSO\n.BR rekhuso (1)\n"
     )
 
 
@@ -93,7 +96,7 @@ def first_page() -> str:
     return (
         head("rekhuso", "tools beside osdmapd, for people with a Ceph cluster")
         + ".SH SYNOPSIS\n\\fBrekhuso\\fR \\fICOMMAND\\fR ..\n.SH DESCRIPTION\nEach command has a page of its own.\n"
-        + f"{names}.SH OPTIONS\n{''.join(map(option_text, options_in(top())))}{STATUS}.SH SEE ALSO\n{also}\n"
+        + f"{names}.SH OPTIONS\n{''.join(map(option_text, options_in(top())))}{status_text()}.SH SEE ALSO\n{also}\n"
     )
 
 
