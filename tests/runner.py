@@ -83,7 +83,8 @@ class Runner(Case):
     is_form = True
 
     def told(self, module: str, *words: object) -> tuple[int, list[str]]:
-        """The status and the lines of a run over a module of tests, the lines of faults and the times aside."""
+        """The status and the lines of a run over a module of tests, the lines of faults, of times and of what is
+        being run aside."""
         with tempfile.TemporaryDirectory() as folder:
             tests = pathlib.Path(folder, "tests")
             tests.mkdir()
@@ -92,6 +93,7 @@ class Runner(Case):
             (tests / "own.py").write_text(HEAD + module)
             status, told = ran([sys.executable, tests / "run.py", "--form", "--total", *words])
         lines = [line.split(" (")[0] for line in told.splitlines() if line[:1] not in (" ", "")]
+        lines = [line for line in lines if " runs are done; now: " not in line]
         return status, [line for line in lines if not line.startswith(("FAILED: test_", "Traceback"))]
 
     def test_skip_behind_failed_rows(self) -> None:
