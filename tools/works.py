@@ -4,10 +4,10 @@ may not be made: status 1 where there is one.
 
     works.py [ROOT]
 
-A run of a rule needs a `Work`, which counts it by a clause. A monitor makes one `Work`, which its state lends to all
-that runs rules, and clauses of the state say how many runs there were. Runs with a second work would be counted
-elsewhere, and no contract could tell. So each of these is made in the files that stand here, in one place of each, and
-in no other.
+A run of a rule needs a `Work`, which counts it by a clause, and its searches by a token (a `Tip` of tip). A monitor
+makes one `Work`, which its state lends to all that runs rules, and clauses of the state say how many runs there were.
+Runs with a second work, and searches with a second token, would be counted elsewhere, and no contract could tell. So
+each of these is made in the files that stand here, in one place of each, and in no other.
 """
 
 from __future__ import annotations
@@ -21,6 +21,10 @@ WORKS = {
     "monitor/src/open.rt": "the one that all runs of a monitor's state are counted in",
     "monitor/src/follower.rt": "a follower answers from a map of its own, which has no table and no patch",
 }
+TOKENS = {
+    "crush/src/work.rt": "the one by which a work knows its searches",
+    "monitor/src/open.rt": "the one by which members know what they have seen",
+}
 STATES = {"monitor/src/open.rt": "the state of the monitor"}
 FOLLOWERS = {
     "session/src/following.rt": "the follower of a session",
@@ -29,6 +33,7 @@ FOLLOWERS = {
 # What makes something, by its name: the crate that declares it, and where it may be made elsewhere.
 MAKERS: dict[str, tuple[str, dict[str, str]]] = {
     "Work": ("crush", WORKS),
+    "Tip": ("tip", TOKENS),
     "State": ("state", STATES),
     "Follower": ("monitor", FOLLOWERS),
 }
@@ -57,7 +62,7 @@ def makers(root: pathlib.Path) -> Iterator[tuple[str, str, bool]]:
         place = file.relative_to(root / "crates").as_posix()
         for what, (home, allowed) in MAKERS.items():
             called = times_in(file, CALL.format(what))
-            if called and not place.startswith("crush/"):
+            if called:
                 yield place, what, place in allowed and called == 1
             if times_in(file, OTHER_NAME.format(what)) and not place.startswith(f"{home}/"):
                 yield place, f"name of its own for {what}", False

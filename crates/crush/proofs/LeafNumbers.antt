@@ -17,10 +17,10 @@ varied_away vary r times small some is many =
     sym (ap (λ (b : Bool). cond b 0 (r / 2 ^ (vary - 1))) (ne_eqb vary 0 some) ∙ ap (λ n. r / 2 ^ n) (sym is) ∙ halved_away r times small many)
 
 -- by jewel's tunables a leaf is sought from the number of its bucket on
-pub newest_number : (t : Tries) (count r : ℕ) → t.vary ≡ 1 → (t.stable ≡ 0 → ⊥) → r ≡ leaf_number t count r
+pub newest_number : (t : Tries) (count r : ℕ) → t.vary ≡ 1 → t.stable ≡ 1 → r ≡ leaf_number t count r
 unfolding leaf_number
 newest_number t count r one steady =
     let whole : varied_by t.vary r ≡ r = ap (λ v. varied_by v r) one ∙ div-one r in
     let same : 0 + varied_by t.vary r ≡ varied_by t.vary r = omega arith in
-    let none : settled_by t.stable count ≡ 0 = ap (λ (b : Bool). cond b count 0) (ne_eqb t.stable 0 steady) in
+    let none : settled_by t.stable count ≡ 0 = ap (λ (b : Bool). cond b count 0) (ne_eqb t.stable 0 (λ none. omega (arith, none, steady))) in
     sym (ap (λ s. s + varied_by t.vary r) none ∙ same ∙ whole)

@@ -1,5 +1,5 @@
 -- The run of a rule (CRUSH paper, algorithm 1; Ceph, mapper.c, crush_do_rule).
-use Rattle.std.specs.Prelude.{ℕ, ◌+◌, ◌-◌, ◌^◌, Bool, true, false, ℤ, List, [], ◌∷◌, ◌++◌, length, map, take, min, ◌==◌, Option, Some, None, if◌then◌else◌}
+use Rattle.std.specs.Prelude.{ℕ, ◌+◌, ◌-◌, ◌^◌, Bool, true, false, ℤ, List, [], ◌∷◌, ◌++◌, length, map, take, min, ◌==◌, Option, Some, None, is_some, if◌then◌else◌}
 use Rattle.std.specs.List.{fold, count_by}
 use Rattle.buckets.specs.declared.bucket.Bucket.{Bucket}
 use Rattle.crush.specs.declared.choose.Tries.{Tries}
@@ -68,6 +68,30 @@ after_step w size s (Take id) = record s { working = Some id ∷ [] }
 after_step w size s (Chooses c) = record s { working = chosen_from (choosing_of w size s.tries c) size s.working }
 after_step w size s Emit = record s { working = []; emitted = take size (s.emitted ++ s.working) }
 
+-- whether an entry of a working list is a bucket, below which a choose step chooses
+abbrev pub is_start : World → Option ℤ → Bool
+is_start w None = false
+is_start w (Some item) = is_some (bucket_at w.buckets item)
+
+-- how many buckets a step chooses below
+unfoldable pub searches_by : World → Progress → Step → ℕ
+searches_by w s (SetChooseTries _) = 0
+searches_by w s (SetChooseleafTries _) = 0
+searches_by w s (SetChooseleafVaryR _) = 0
+searches_by w s (SetChooseleafStable _) = 0
+searches_by w s (Take _) = 0
+searches_by w s (Chooses c) = count_by (is_start w) s.working
+searches_by w s Emit = 0
+
+-- how many buckets some steps choose below, from there on
+abbrev pub searches_from : World → ℕ → Progress → List Step → ℕ
+searches_from w size s [] = 0
+searches_from w size s (step ∷ steps) = searches_by w s step + searches_from w size (after_step w size s step) steps
+
+-- how many buckets the run of a rule chooses below
+abbrev pub searches_of : World → List Step → ℕ → ℕ
+searches_of w steps size = searches_from w size no_progress steps
+
 -- the places that the steps of a rule give in a pool of this size
 unfoldable pub run_of : World → List Step → ℕ → List (Option ℤ)
 run_of w steps size = (fold (after_step w size) no_progress steps).emitted
@@ -95,3 +119,5 @@ pub record Ran : Type 0 where
   pub result : List (Option ℤ)
   pub runs : ℕ
   pub choose_steps : ℕ
+  pub name : ℕ
+  pub searches : ℕ

@@ -11,6 +11,7 @@ use crate::placement::Start;
 use crate::remembered::Picks;
 use buckets::Bucket;
 use std::alloc::AllocError;
+use tip::Tip;
 
 /// The replica that is sought, and how many of its first tries are known to fail beside what is chosen.
 #[derive(Clone, Copy)]
@@ -76,7 +77,7 @@ impl Tries {
         ensures value { result ≡ leaf_number self count r }
         ensures small { result ≤ count + r }
     {
-        if self.vary == 1 && self.stable != 0 {
+        if self.vary == 1 && self.stable == 1 {
             return r;
         }
         self.older_number(count, r)
@@ -219,12 +220,16 @@ impl Chooser<'_> {
         start: &Bucket,
         limit: usize,
         chosen: &mut Vec<Choice>,
+        searches: &mut Tip,
     ) -> Result<(), AllocError>
         requires within { IsPickable start.now }
         requires picks { Remembers (world self.now.placement) picks.old }
         ensures value { OnOk result (chosen.new.items ≡ firstn (choosing self.now) start.now limit) }
+        ensures name { searches.new.name ≡ searches.old.name }
+        ensures searched { searches.new.count ≡ searches.old.count + 1 }
         ensures picks { Remembers (world self.now.placement) picks.new }
     {
+        searches.rise(1);
         let below = Start::new(start, self.placement.x, self.numrep);
         chosen.clear();
         let mut sought = Sought { rep: 0, known: 0 };

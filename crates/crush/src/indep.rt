@@ -9,6 +9,7 @@ use crate::chooser::Chooser;
 use crate::placement::Start;
 use crate::remembered::Picks;
 use buckets::Bucket;
+use tip::Tip;
 
 /// Whether an item stands at some position.
 fn is_held(positions: &[Position], item: i32) -> bool
@@ -163,14 +164,23 @@ impl Chooser<'_> {
 
     /// Fills the positions, in all rounds.
     #[tactic(auto, unfolding(crate::specs::Indep::indep))]
-    pub(crate) fn indep(&self, picks: &mut Picks, start: &Bucket, positions: &mut [Position])
+    pub(crate) fn indep(
+        &self,
+        picks: &mut Picks,
+        start: &Bucket,
+        positions: &mut [Position],
+        searches: &mut Tip,
+    )
         requires within { IsPickable start.now }
         requires some { 0 < self.now.numrep }
         requires few { length positions.old ≤ max_size }
         requires picks { Remembers (world self.now.placement) picks.old }
         ensures value { positions.new ≡ indep (choosing self.now) start.now (length positions.old) }
+        ensures name { searches.new.name ≡ searches.old.name }
+        ensures searched { searches.new.count ≡ searches.old.count + 1 }
         ensures picks { Remembers (world self.now.placement) picks.new }
     {
+        searches.rise(1);
         let below = Start::new(start, self.placement.x, self.numrep);
         positions.fill(Position::Open);
         for round in 0..self.tries.total {

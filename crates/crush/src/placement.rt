@@ -55,7 +55,7 @@ impl<'a> Start<'a> {
     fn pick(&self, r: u32) -> i32
         ensures { result ≡ pick_of self.now.bucket.now self.now.x r }
     {
-        match self.firsts {
+        match &self.firsts {
             Some(picks) if r < 4 => picks[r as usize],
             _ => self.bucket.pick(self.x, r),
         }

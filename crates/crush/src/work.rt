@@ -7,9 +7,10 @@ use crate::remembered::{FREE_TRIES, PLACES, Picks};
 use refusal::Memory;
 use std::alloc::Global;
 use std::marker::Model;
+use tip::Tip;
 
 /// What a run has come to, and the lists that it works in.
-#[derive(Debug, Drop)]
+#[derive(Drop)]
 pub(crate) struct Lists {
     /// How the next choose steps try.
     pub tries: Tries,
@@ -25,6 +26,8 @@ pub(crate) struct Lists {
     pub picks: Picks,
     /// How many choose steps there were, of all runs.
     pub choose_steps: u64,
+    /// Where the count of the buckets chosen below is.
+    pub searches: Tip,
 }
 
 /// How the choose steps of a rule try that sets none of it, as the tunables called jewel have it: 50 tries after the
@@ -39,7 +42,7 @@ pub(crate) const FIRST_TRIES: Tries = Tries {
 
 /// What the last run left, the numbers of runs and of choose steps, and the room that runs work in. It serves any
 /// forest.
-#[derive(Debug, Drop)]
+#[derive(Drop)]
 pub struct Work {
     pub(crate) lists: Lists,
     pub(crate) runs: u64,
@@ -50,7 +53,13 @@ impl Model for Work {
 
     ghost Value = { Ran };
 
-    ghost view = { λ w. record { result = w.lists.emitted.items; runs = w.runs; choose_steps = w.lists.choose_steps } };
+    ghost view = { λ w. record {
+      result = w.lists.emitted.items;
+      runs = w.runs;
+      choose_steps = w.lists.choose_steps;
+      name = w.lists.searches.name;
+      searches = w.lists.searches.count;
+    } };
 }
 
 impl Work {
@@ -65,6 +74,7 @@ impl Work {
         ensures result { IfOk result (λ work. work.result ≡ []) }
         ensures runs { IfOk result (λ work. work.runs ≡ 0) }
         ensures choose_steps { IfOk result (λ work. work.choose_steps ≡ 0) }
+        ensures searches { IfOk result (λ work. work.searches ≡ 0) }
     {
         let lists = Lists {
             tries: FIRST_TRIES,
@@ -78,6 +88,7 @@ impl Work {
                 by_place: Vec::with_capacity(alloc, PLACES)?,
             },
             choose_steps: 0,
+            searches: Tip::new(),
         };
         Ok(Work { lists, runs: 0 })
     }
