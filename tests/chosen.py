@@ -1,13 +1,15 @@
-"""Groups that are chosen to be held or let go, holds that hold nothing, and commands that would change no set."""
+"""Groups that are chosen to be held or let go, pools that are chosen to be planned, holds that hold nothing, and
+commands that would change no set."""
 
 from __future__ import annotations
 
 import json
 import pathlib
+import re
 from collections.abc import Callable
 
 from tests.ceph_monitor import WORST
-from tests.clusters import Json, commands, copied
+from tests.clusters import Json, commands, copied, kept
 from tests.drains import come_in
 from tests.holds import RECORDS, WEIGHT, lines_in, sets_of
 from tests.tool_cases import StockCase
@@ -132,20 +134,31 @@ class Chosen(StockCase):
         self.assertFalse({osd for _, osd in come_in(own, was, {**was, **moved})} & {5})
 
     def test_nothing(self) -> None:
-        """Where nothing can be held, that is told first, with what can be, and there is no script; the way back is
-        put out all the same."""
+        """Where nothing can be held, that is told first, with what can be in its place, as it does when it is tried;
+        there is no script. The way back is put out all the same."""
         own = WORST["affinity"]
         files = [self.tools.put("o", own["osd_dump"]), self.tools.put("c", own["crush_dump"])]
-        for words, told in (
-            (["--weight", "h1=0"], "a weight of 0.0001 in place of 0 can be held: `drain` begins with it"),
-            (["--out", "h1"], "hold before out: a weight of 0.0001 can be held: `drain` begins with it"),
-        ):
+        for words in (["--weight", "h1=0"], ["--out", "h1"], ["--reweight", "h1", "0"]):
             output, error = self.ran("hold", *files, *words, status=1)
             first, second, *_ = error.splitlines()[-4:]
+            found = re.fullmatch(r"`(.*)` in its place holds ([0-9]+) of ([0-9]+) groups: `drain` begins .*", second)
+            assert found is not None, error
             self.assertEqual(output, "")
             self.assertTrue(first.startswith("nothing is held: of ") and first.endswith(" none can be"), first)
-            self.assertStarts(second, told)
-        self.assertEqual(self.json("hold", *files, "--weight", "h1=0.0001")["left"], [])
+            told = self.json("hold", *files, *found[1].split(" "))
+            self.assertEqual((str(told["held"]), str(told["groups"]), told["left"]), (found[2], found[3], []))
+        commands(self.output("hold", *files, "--out", "h1", "--undo"))
+
+    def test_nothing_but_before(self) -> None:
+        """Where nothing can be held and all of it can be moved before the change, that is told."""
+        own, new = WORST["racks"], self.tools.put("new", kept("prepared.json.gz")["new_crush_dump"])
+        files = [self.tools.put("o", own["osd_dump"]), self.tools.put("c", own["crush_dump"])]
+        left = [entry["group"] for entry in self.json("hold", *files, "--crush", new)["left"]]
+        _, error = self.ran("hold", *files, "--crush", new, "--pg", ",".join(left), status=1)
+        first, second, *_ = error.splitlines()
+        self.assertTrue(first.startswith("nothing is held: of "), first)
+        told = f"`--prepare` moves {len(left)} groups before the change, and a hold then leaves 0 groups"
+        self.assertEqual(second, told)
 
     def test_idle_commands(self) -> None:
         """Pairs that lead to the set that a group has are left as they are, in whatever order they stand."""
@@ -159,3 +172,39 @@ class Chosen(StockCase):
             output, error = self.ran("hold", path, files[1], path, files[1])
             self.assertEqual(lines_in(output), [], error)
             self.assertEqual(commands(output), [])
+
+
+class ChosenPools(StockCase):
+    """`plan` of the pools of some device classes."""
+
+    def files(self) -> list[pathlib.Path]:
+        """The dumps of a cluster of two classes, with a pool for each of them and one across both."""
+        own = WORST["tiers"]
+        return [self.tools.put("o", own["osd_dump"]), self.tools.put("c", own["crush_dump"])]
+
+    def test_classes(self) -> None:
+        """The pools of the classes are planned as by their names, those across are told; of a map by its names too."""
+        files = self.files()
+        output, error = self.ran("plan", *files, "--class", "ssd")
+        self.assertStarts(error, "not planned: device_health_metrics, which has places on OSDs of other device classes")
+        wanted = commands(self.output("plan", *files, "--pool", "hot"))
+        self.assertEqual(commands(output), wanted)
+        self.assertTrue(wanted)
+        both = self.json("plan", *files, "--class", "hdd,ssd")
+        self.assertEqual(both["commands"], self.json("plan", *files)["commands"])
+        names, value = self.tools.folder / "names", self.tools.folder / "map"
+        value.write_text(self.output("import", *files, "--pools", "2,3", "--names", names))
+        words = ["plan", value, "--names", names]
+        output = self.output(*words, "--class", "ssd")
+        self.assertEqual(commands(output), commands(self.output(*words, "--pool", "hot")))
+        alone = self.json("plan", *files, "--class", "ssd", "--alone")
+        self.assertEqual([pool["name"] for pool in alone["pools"]], ["hot"])
+
+    def test_words(self) -> None:
+        """A class that no OSD has, and one that no named pool has, are told."""
+        files = self.files()
+        for words, told in (
+            (["--class", "tape"], "no OSD of device class tape; there are hdd, ssd"),
+            (["--class", "hdd", "--pool", "hot"], "no pool of several groups lies on OSDs of device class hdd alone"),
+        ):
+            self.is_told(self.tools.run("plan", *files, *words), 1, told, words)

@@ -281,7 +281,7 @@ class Reef(ReefCase):
         own = copied(REEF["hammer"])
         own["crush_dump"]["tunables"]["choose_local_tries"] = 2
         _, error = self.ran("import", "--check", *self.dumps("older", own), status=1)
-        self.assertIn("sets all of them, and moves data once\n", error)
+        self.assertIn("sets all of them, and moves data once; under norebalance, `hold --at` behind it keeps", error)
 
 
 class ByReef(ReefCase):

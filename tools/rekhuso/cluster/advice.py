@@ -7,6 +7,7 @@ from typing import NamedTuple
 
 from ..program.map_forms import ITEMS, PLAIN, STOCK
 from ..words import some
+from .moving_advice import HELD
 from .reasons.counts import FEW
 
 
@@ -65,18 +66,22 @@ ADVICES = (
     Advice(
         r"straw buckets?, as ", "`ceph osd crush set-all-straw-buckets-to-straw2` makes them straw2 (Nautilus or later)"
     ),
-    Advice(r"^tunable ", "`ceph osd crush tunables jewel` sets all of them, and moves data once"),
+    Advice(r"^tunable ", f"`ceph osd crush tunables jewel` sets all of them, and moves data once; {HELD}"),
     Advice(r"^no tunable ", "take the dump by Ceph 10.2 or later"),
     Advice(r"crush_ruleset in its place", "the tools take the dumps of later ones alone"),
     Advice(
         r"^pool (\d+) is without hashpspool",
-        f"`ceph osd pool set POOL hashpspool true --yes-i-really-mean-it` sets it, and moves its data once; {POOLS}",
+        f"`ceph osd pool set POOL hashpspool true --yes-i-really-mean-it` sets it, and moves its data once; {HELD}; "
+        f"{POOLS}",
     ),
     Advice(
         r"^choose_args.*: of pools",
-        f"`ceph osd crush weight-set rm POOL` takes each away, once the balancer is off{{moves}}; {POOLS}",
+        f"`ceph osd crush weight-set rm POOL` takes each away, once the balancer is off{{moves}}; {HELD}; {POOLS}",
     ),
-    Advice(r"^choose_args", "`ceph osd crush weight-set rm-compat` takes it away, once the balancer is off"),
+    Advice(
+        r"^choose_args",
+        f"`ceph osd crush weight-set rm-compat` takes it away, once the balancer is off, which moves data; {HELD}",
+    ),
     Advice(
         r"can pick the empty bucket (.+~.+)$",
         "no OSD of the class is left; `ceph osd pool set POOL crush_rule RULE` gives a pool of that rule another, "

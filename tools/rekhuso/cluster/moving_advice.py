@@ -20,6 +20,8 @@ from .reasons import reasons
 
 # The key of a compat weight set.
 COMPAT = "-1"
+# What keeps data where it is where it would move by what is advised.
+HELD = "under norebalance, `hold --at` behind it keeps the data where it is"
 
 
 def with_sets(cluster: Cluster, sets: dict[str, Any]) -> Cluster:

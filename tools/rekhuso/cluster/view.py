@@ -19,7 +19,7 @@ from .dump_forms import is_crush_dump
 from .imports import ImportedCluster, imported
 from .map_files import map_in, map_with_sets
 from .map_parts import map_clusters
-from .moving_advice import compat_words
+from .moving_advice import HELD, compat_words
 from .names import Names, names_in
 from .primaries import NamedPrimaries, primaries_in
 from .reach import Full
@@ -33,7 +33,7 @@ def no_plan_words(moves: str) -> str:
     return (
         "no plan: a compat weight set (choose_args) is in force, so a plan by its weights would undo what it was tuned "
         "for, and one by the weights themselves would start from sets that are not there. Turn Ceph's balancer off, "
-        f"take the set away by `ceph osd crush weight-set rm-compat`, which moves data{moves}, and dump again"
+        f"take the set away by `ceph osd crush weight-set rm-compat`, which moves data{moves}, and dump again; {HELD}"
     )
 
 

@@ -17,6 +17,7 @@ from dataclasses import dataclass
 
 from ..cluster.cluster import Cluster
 from ..cluster.imports import imported
+from ..cluster.moving_advice import HELD, compat_words
 from ..cluster.reports import with_both
 from ..cluster.sources import Source
 from ..cluster.view import ClusterView
@@ -99,7 +100,11 @@ def drained(options: DrainOptions) -> tuple[Drain, Cluster]:
     found, program = imported(options.source.dumps()), options.source.program
     cluster = found.cluster
     if cluster.has_weight_set:
-        raise Fault(f"{IN_FORCE}: `ceph osd crush weight-set rm-compat` first; nothing is drained")
+        moves = compat_words(cluster, program)
+        raise Fault(
+            f"{IN_FORCE}: `ceph osd crush weight-set rm-compat` first, which moves data{moves}; {HELD}",
+            "nothing is drained",
+        )
     check_still(moving_words(cluster, program), options.is_anyway, "drained")
     view = ClusterView(found.maps, cluster.all_names(), found)
     osds = osds_of(view, options.words)

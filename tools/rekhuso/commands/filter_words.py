@@ -7,7 +7,7 @@ from collections.abc import Iterable
 from dataclasses import dataclass
 
 from ..cluster.cluster import Cluster
-from ..cluster.names import pools_named
+from ..cluster.names import Names, pools_named
 from ..cluster.view import view_of_cluster
 from ..faults import Fault
 from ..plans.group_filter import GroupFilter
@@ -35,7 +35,7 @@ class FilterWords:
     def chosen(self, cluster: Cluster) -> GroupFilter:
         """The groups that are chosen of a cluster. A fault for a word that names nothing."""
         osds = [osds_in(cluster, text) for text in (self.osd, self.host) if text is not None]
-        osds += [] if self.device_class is None else [osds_of_classes(cluster, self.device_class)]
+        osds += [] if self.device_class is None else [osds_of_classes(cluster.all_names(), self.device_class)]
         names = {pool["pool"]: pool["pool_name"] for pool in cluster.pools}
         pools = None if self.pool is None else frozenset(pools_named([self.pool], names))
         groups = None if self.pg is None else frozenset(groups_in_words(cluster, self.pg))
@@ -49,14 +49,14 @@ def osds_in(cluster: Cluster, text: str) -> frozenset[int]:
     return frozenset(osd for word in text.split(",") for osd in osds_named(tree, view.names, word))
 
 
-def osds_of_classes(cluster: Cluster, text: str) -> frozenset[int]:
+def osds_of_classes(names: Names, text: str) -> frozenset[int]:
     """The OSDs of some device classes. A fault for one that no OSD has."""
-    classes = {device["id"]: device.get("class") for device in cluster.crush["devices"]}
-    there = sorted({own for own in classes.values() if own is not None})
+    classes = names.get("classes", {})
+    there = sorted(set(classes.values()))
     for word in text.split(","):
         if word not in there:
             raise Fault(f"no OSD of device class {word}; there are {', '.join(there) or 'none'}")
-    return frozenset(osd for osd, own in classes.items() if own in text.split(","))
+    return frozenset(int(osd) for osd, own in classes.items() if own in text.split(","))
 
 
 def groups_in_words(cluster: Cluster, text: str) -> Iterable[str]:

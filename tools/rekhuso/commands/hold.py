@@ -38,6 +38,7 @@ from ..values import SLOTS
 from .arguments import Arguments, Commands, add_dump_options, add_guard, add_json, set_work, source_of
 from .change_words import USE, ChangeWords, add_change_words, change_words, files_and_change
 from .filter_words import FILTERS, FilterWords, add_filter_words, filter_words
+from .hold_instead import Tried, instead_of
 from .part_words import PartWords, add_part_words, part_words
 from .plan import commands_a_file
 
@@ -200,6 +201,16 @@ def work_before(options: HoldOptions) -> None:
         put_batches(options.to, "undo" if options.is_undo else BEFORE_WORD, scripts)
 
 
+def tried_instead(options: HoldOptions) -> list[str]:
+    """What can be held in place of a change that is still to come, where something is found."""
+    if options.is_made:
+        return []
+    found, program = cluster_in(options.old), options.old.program
+    view = ClusterView(found.maps, found.cluster.all_names(), found)
+    steps = options.asked.commands(view, found.cluster, program)
+    return instead_of(Tried(found.cluster, options.asked, steps, program))
+
+
 def work(options: HoldOptions) -> None:
     """Tells the exceptions that hold groups, and which are not held."""
     if options.is_before:
@@ -208,7 +219,7 @@ def work(options: HoldOptions) -> None:
     sides, torn = sides_of(options)
     hold = hold_of(sides, options.old.program, replace(options.chosen.chosen(sides.new), passed=torn))
     if hold.is_idle and not options.is_undo:
-        raise Fault(*idle_lines(hold))
+        raise Fault(*idle_lines(hold, tried_instead(options)))
     origin = origin_of(options.old.program, options.files(), sides.new, options.is_guarded)
     scripts = scripts_of(sides, hold, options, origin)
     check_printed(hold, scripts, options)

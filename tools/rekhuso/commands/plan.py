@@ -3,8 +3,8 @@
 The proved balancer plans each pool beside what its OSDs carry from all others, so that the cluster gets more even too:
 by groups, and with --df by bytes. A plan of a pool moves only between OSDs that differ by more than twice --deviation
 groups; 0.5 is every move. A plan goes on until a plan over what it makes is empty, or tells how many commands that has.
-The first commands are worth most. With --pool only these pools are planned, for the sake of all; with --alone each pool
-is planned by itself. Standard error tells how even the cluster is before and after, and then each pool.
+The first commands are worth most. With --pool or --class only some pools are planned, for the sake of all; with --alone
+each pool is planned by itself. Standard error tells how even the cluster is before and after, and then each pool.
 
 Comments above the commands tell what one must know before they are run, and a table below them what moves, by pool and
 by OSD. The commands are the difference of the two maps' exceptions, where each group has the fewest pairs that lead to
@@ -54,13 +54,15 @@ from ..plans.busy import ALL
 from ..plans.hold_checks import check_still, told_words
 from ..plans.movement import PlaceBytes, place_bytes
 from ..plans.plan import Outcome, Wish, leave_alone, misplaced_in, outage_in, planned
+from ..plans.pool_choice import pools_on
 from ..plans.printed import Asked, Printed
 from ..plans.rounds import Live, MOST_MOVES
 from ..plans.steps import steps_by_pool
-from ..program.maps import Map, Pool, Program, altered
+from ..program.maps import Map, Program, altered
 from ..progress import doing
 from ..values import SLOTS
 from .arguments import Arguments, Commands, add_files, add_guard, add_json, set_work, source_of
+from .filter_words import osds_of_classes
 from .part_words import PartWords, add_part_words, part_words
 
 # What is told above a plan of its other forms.
@@ -100,7 +102,8 @@ class ToldPlan:
 @dataclass(frozen=True, **SLOTS)
 class Held:
     """What a cluster holds: what files tell, and of it the data of its pools; the weights of all its OSDs; which OSDs
-    it has, None where not all are known; how full one may get; and the tree in which they stand.
+    it has, None where not all are known; how full one may get; the tree in which they stand; and the OSDs of the device
+    classes on which pools lie that are planned, None where these are all.
     """
 
     known: KnownData
@@ -109,18 +112,20 @@ class Held:
     osds: frozenset[int] | None
     nearfull: float
     tree: Map
+    chosen: frozenset[int] | None
 
 
 @dataclass(frozen=True, **SLOTS)
 class PlanOptions:
-    """What is planned over, and how: which pools, at most how many commands, how near to the shares, whether each pool
-    by itself, whether for room alone, whether by weights alone, whether amid an outage too, and by which file of data;
-    and how it is put out: as the way back, in files of so many commands in a folder, as JSON, only which of three it
-    is, or without guards.
+    """What is planned over, and how: which pools, by their names or by the device classes of their OSDs, at most how
+    many commands, how near to the shares, whether each pool by itself, whether for room alone, whether by weights
+    alone, whether amid an outage too, and by which file of data; and how it is put out: as the way back, in files of so
+    many commands in a folder, as JSON, only which of three it is, or without guards.
     """
 
     source: Source
     pools: tuple[str, ...]
+    classes: str | None
     most: int | None
     deviation: Fraction | None
     is_alone: bool
@@ -161,6 +166,7 @@ def options_of(arguments: Arguments) -> PlanOptions:
     return PlanOptions(
         source_of(own),
         tuple(own.pool or ()),
+        getattr(own, "class"),
         own.max,
         own.deviation,
         own.alone,
@@ -177,17 +183,39 @@ def options_of(arguments: Arguments) -> PlanOptions:
     )
 
 
-def wish_of(options: PlanOptions, pools: list[Pool], names: Names, held: Held) -> Wish:
+def pools_of(options: PlanOptions, lives: list[Live], names: Names, held: Held) -> frozenset[int]:
+    """The pools that are planned, none where these are all. Those that are passed over, as they lie on OSDs of other
+    device classes too, are told on standard error. A fault for a word that names no pool, and where none is left.
+    """
+    pools = {number: pool for live in lives for number, pool in live.pools.items()}
+    named_pools = pools_named(options.pools, {own: names.get("pools", {}).get(str(own), "") for own in pools})
+    if held.chosen is None:
+        return frozenset(named_pools)
+    found = pools_on(lives, held.chosen).of(named_pools)
+    for line in found.lines(names):
+        print(line, file=sys.stderr)
+    several = [own for own in found.within if own in named_pools or options.is_alone or pools[own]["pg_num"] > 1]
+    if not several:
+        raise Fault(f"no pool of several groups lies on OSDs of device class {options.classes} alone")
+    return frozenset(several)
+
+
+def wish_of(options: PlanOptions, lives: list[Live], names: Names, held: Held) -> Wish:
     """What is asked for. A fault for a word that names no pool, and where room is wanted and some pool is unknown."""
     most = options.most or (MOST_MOVES if options.is_alone else ALL)
-    own = {pool["id"]: names.get("pools", {}).get(str(pool["id"]), "") for pool in pools}
-    named_pools = frozenset(pools_named(options.pools, own))
+    own = {number for live in lives for number in live.pools}
+    named_pools = pools_of(options, lives, names, held)
     batch, data = options.parts.batch or ALL, held.data
-    beside = sorted((data.of_pool if data else {}).keys() - own.keys())
+    beside = sorted((data.of_pool if data else {}).keys() - own)
     if options.is_room and beside:
         raise Fault(f"--room wants all pools of the cluster: pool {beside[0]} holds data, and is in no map here")
     forms = options.is_alone, options.is_room, options.is_by_weight
     return Wish(named_pools, options.deviation, most, batch, *forms, data, held.nearfull, options.parts.busy(held.tree))
+
+
+def chosen_in(options: PlanOptions, names: Names) -> frozenset[int] | None:
+    """The OSDs of the device classes on which pools lie that are planned. A fault for a class that no OSD has."""
+    return None if options.classes is None else osds_of_classes(names, options.classes)
 
 
 def printed_over(lives: list[Live], outcome: Outcome, program: Program) -> Printed:
@@ -205,7 +233,7 @@ def told_by(lives: list[Live], options: PlanOptions, names: Names, held: Held, o
     if data is not None:
         needed = {osd for live in lives for pool in live.pools.values() for osd in live.before.weights_for(pool)}
         data = held.known.with_disks(data.weighed(held.weights), needed, held.osds)
-    wish = wish_of(options, pools, names, replace(held, data=data))
+    wish = wish_of(options, lives, names, replace(held, data=data))
     outcome = planned(lives, wish, doing)
     refused = [parts for parts in outcome.pools if parts["refused"]]
     if refused and options.pools:
@@ -231,7 +259,13 @@ def plan_of_map(options: PlanOptions, known: KnownData) -> ToldPlan:
         data = known.of_cluster(value["pools"], names.get("pools", {}), False, {})
         weights = {item: own for bucket in tree or value["buckets"] for item, own in bucket["items"] if item >= 0}
         held = Held(
-            known, data, list(weights.values()), None, NEARFULL, altered(value, buckets=tree or value["buckets"])
+            known,
+            data,
+            list(weights.values()),
+            None,
+            NEARFULL,
+            altered(value, buckets=tree or value["buckets"]),
+            chosen_in(options, names),
         )
         live = Live(value, value, names, judge_of_map(value, names), monitor)
         origin = origin_of_map(source.program, options.files(), value, names, options.is_guarded)
@@ -260,7 +294,7 @@ def plan_of_dumps(options: PlanOptions, known: KnownData) -> ToldPlan:
     cluster, pools = found.cluster, [pool for value in found.maps for pool in value["pools"]]
     data = known.of_cluster(pools, names["pools"], source.pools is None, cluster.erasure_rates)
     weights, osds = list(cluster.osd_weights().values()), frozenset(cluster.osds)
-    held = Held(known, data, weights, osds, cluster.nearfull, whole.tree)
+    held = Held(known, data, weights, osds, cluster.nearfull, whole.tree, chosen_in(options, names))
     with ExitStack() as stack:
         lives = [
             Live(
@@ -405,6 +439,7 @@ def add_to(commands_of: Commands) -> None:
     own = commands_of.add_parser("plan", help="a balancer's plan as Ceph's commands", description=__doc__)
     forms = [
         "[--pool ID|NAME,..]..",
+        "[--class CLASS,..]",
         "[--max N]",
         "[--deviation D]",
         "[--alone]",
@@ -422,6 +457,9 @@ def add_to(commands_of: Commands) -> None:
         metavar="ID|NAME,..",
         action="append",
         help="plan only these pools, for the sake of all; may be given again (else all of several groups)",
+    )
+    own.add_argument(
+        "--class", metavar="CLASS,..", help="plan only the pools that lie on OSDs of these device classes alone"
     )
     own.add_argument(
         "--max",

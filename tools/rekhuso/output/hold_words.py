@@ -49,12 +49,12 @@ def instead_lines(hold: Hold) -> list[str]:
     return [words for step, words in INSTEAD.items() if step in steps]
 
 
-def idle_lines(hold: Hold) -> list[str]:
-    """That nothing is held, and what would be."""
+def idle_lines(hold: Hold, tried: list[str]) -> list[str]:
+    """That nothing is held, and what would be: what was tried, if that is known."""
     lines = hold_lines(hold)
     first = f"nothing is held: of {counted(len(hold.moving()), 'group')} that would move none can be"
     instead = instead_lines(hold)
-    return [first, *instead, *(line for line in lines if line not in instead)]
+    return [first, *(tried or instead), *(line for line in lines if line not in instead)]
 
 
 def hold_lines(hold: Hold) -> list[str]:
