@@ -103,8 +103,8 @@ module _ (m : ClusterMap) (items : List (Exception Pair)) where
   unfolding brings_rightly leaves_few_groups is_distinct
   brought_rightly holds =
       let ruled : list_all (has_rule m.rules) (pools_kept m change) ≡ true = ap (list_all (has_rule m.rules)) kept_same ∙ holds.ruled in
-      let few : nat_le (length (pools_there m change)) max_pools ≡ true = ap (λ (ps : List PoolFacts). nat_le (length ps) max_pools) there_same ∙ few_pools (length m.pools) holds.few_pools in
-      let groups : nat_le (total_groups (pools_after m change)) max_total_groups ≡ true = ap (λ (ps : List PoolFacts). nat_le (total_groups ps) max_total_groups) after_same ∙ few_groups (total_groups m.pools) holds.few_groups in
+      let few : nat_le (length (pools_there m change)) max_pools ≡ true = ap (λ (ps : List PoolFacts). nat_le (length ps) max_pools) there_same ∙ few_pools (length m.pools) holds.pools.few in
+      let groups : nat_le (total_groups (pools_after m change)) max_total_groups ≡ true = ap (λ (ps : List PoolFacts). nat_le (total_groups ps) max_total_groups) after_same ∙ few_groups (total_groups m.pools) holds.pools.few_groups in
       rw (ruled, few, groups) refl
     where
       few_groups : (n : ℕ) → n ≤ 1048576 → nat_le n 1048576 ≡ true
@@ -183,7 +183,7 @@ module _ (m : ClusterMap) (p : PoolFacts) (cs : Aim) (moves : List Move) (reache
   sound_one : (n : ℕ) → is_moved moves n ≡ true → is_exception sides are_pairs m.pools (osd_exists m) (items_at now p n) ≡ true
   sound_one n is =
       let e = items_at now p n in
-      let passes = found_passes _ (is_exception sides are_pairs now.pools (osd_exists now)) now.items e (reached.named n is) reached.holds.items_sound in
+      let passes = found_passes _ (is_exception sides are_pairs now.pools (osd_exists now)) now.items e (reached.named n is) reached.holds.items.sound in
       subst (λ (k : ClusterMap). is_exception sides are_pairs k.pools (osd_exists k) (items_at now p n) ≡ true) (moves_stay m p moves) passes
 
   pub items_sound : list_all (is_exception sides are_pairs m.pools (osd_exists m)) (moved_items m p moves) ≡ true
@@ -232,7 +232,7 @@ module _ (m : ClusterMap) (p : PoolFacts) (cs : Aim) (moves : List Move) (reache
 
   items_after : HoldsTogether m → fold (put key_of) m.items (moved_items m p moves) ≡ now.items
   unfolding moved_items
-  items_after holds = rising_same key_of (fold (put key_of) m.items (moved_items m p moves)) now.items (rising-puts key_of m.items (moved_items m p moves) holds.items_rise) reached.holds.items_rise each
+  items_after holds = rising_same key_of (fold (put key_of) m.items (moved_items m p moves)) now.items (rising-puts key_of m.items (moved_items m p moves) holds.items.rise) reached.holds.items.rise each
     where
       each : (k : ℕ) → entry_at key_of (fold (put key_of) m.items (moved_items m p moves)) k ≡ entry_at key_of (after_moves m p moves).items k
       each k =

@@ -59,7 +59,7 @@ module _ (m : ClusterMap) (p : PoolFacts) (osd : ℕ) where
 pub pool_within : (m : ClusterMap) (p : PoolFacts) (id : ℕ) → HoldsTogether m → pool_at m.pools id ≡ Some p → IsWithinLimits p
 pool_within m p id holds there =
     let at = find-place _ m.pools p there in
-    subst IsWithinLimits at.2 (holds.pools_within at.0 p at.1)
+    subst IsWithinLimits at.2 (holds.pools.within at.0 p at.1)
 
 -- ---- sums
 
@@ -90,7 +90,7 @@ unfolding places
 places_few m p holds there =
     let within = pool_within m p p.id holds there in
     let each : All (λ osd. count_in m p.id osd ≤ 65536) (candidate_osds m p) = λ k d inside. omega (arith, count_small m p (get_or (candidate_osds m p) k d) holds there, within.groups_most) in
-    let few = few_filtered (is_candidate m p) (length m.presences) 4096 holds.few in
+    let few = few_filtered (is_candidate m p) (length m.presences) 4096 holds.osds.few in
     omega (arith, sum_by-le (count_in m p.id) 65536 (candidate_osds m p) each, mul-le (length (candidate_osds m p)) 65536 4096 65536 few (omega arith))
 
 -- ---- deviations

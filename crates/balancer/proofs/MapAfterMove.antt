@@ -120,7 +120,7 @@ module _ (m : ClusterMap) (p : PoolFacts) (cs : Aim) (v : Move) (good : IsGood m
       → (list_all (λ q. list_all (osd_exists m) (sides q)) (unwrap_or (option_map (λ e. e.entries) o) []) ≡ true) × (are_pairs (unwrap_or (option_map (λ e. e.entries) o) []) ≡ true)
   old_pairs holds None found = (refl, refl)
   old_pairs holds (Some e) found =
-      let passes = found_passes _ (is_exception sides are_pairs m.pools (osd_exists m)) m.items e found holds.items_sound in
+      let passes = found_passes _ (is_exception sides are_pairs m.pools (osd_exists m)) m.items e found holds.items.sound in
       let both = and_parts (has_group m.pools e.pg && all_named sides (osd_exists m) e) (is_sound are_pairs m.pools e) passes in
       let named = (and_parts (has_group m.pools e.pg) (all_named sides (osd_exists m) e) both.0).1 in
       (named, pairs_sound (entry_at (λ (q : PoolFacts). q.id) m.pools e.pg.pool) both.1)
@@ -145,24 +145,14 @@ module _ (m : ClusterMap) (p : PoolFacts) (cs : Aim) (v : Move) (good : IsGood m
   pub holds_moved : HoldsTogether m → pool_at m.pools p.id ≡ Some p → HoldsTogether (after_move m p v)
   unfolding after_move
   holds_moved holds there = record {
-    some = holds.some;
-    few = holds.few;
-    present = holds.present;
-    weighed = holds.weighed;
-    weigh_little = holds.weigh_little;
-    forest = holds.forest;
+    osds = holds.osds;
+    crush = holds.crush;
     over_osds = holds.over_osds;
-    some_rules = holds.some_rules;
-    few_rules = holds.few_rules;
-    rules_rise = holds.rules_rise;
-    rules_over = holds.rules_over;
-    few_pools = holds.few_pools;
-    pools_rise = holds.pools_rise;
-    pools_within = holds.pools_within;
-    few_groups = holds.few_groups;
+    pools = holds.pools;
     ruled = holds.ruled;
-    explicit_rise = holds.explicit_rise;
-    explicit_sound = holds.explicit_sound;
-    items_rise = rising-put key_of m.items (items_with_move m p v) holds.items_rise;
-    items_sound = list_all-put key_of (is_exception sides are_pairs m.pools (osd_exists m)) m.items (items_with_move m p v) holds.items_sound (lengthened_sound holds there);
+    explicit = holds.explicit;
+    items = record {
+      rise = rising-put key_of m.items (items_with_move m p v) holds.items.rise;
+      sound = list_all-put key_of (is_exception sides are_pairs m.pools (osd_exists m)) m.items (items_with_move m p v) holds.items.sound (lengthened_sound holds there);
+    };
   }

@@ -86,8 +86,8 @@ module _ (m : ClusterMap) (p : PoolFacts) (cs : Aim) (moves : List Move) (v : Mo
 
   pub ends_few : (v.from < 4096) × (v.to < 4096)
   ends_few = (
-    omega (arith, candidate_below m p v.from ends.0, long_now m p moves, reached.holds.few),
-    omega (arith, candidate_below m p v.to ends.1, long_now m p moves, reached.holds.few),
+    omega (arith, candidate_below m p v.from ends.0, long_now m p moves, reached.holds.osds.few),
+    omega (arith, candidate_below m p v.to ends.1, long_now m p moves, reached.holds.osds.few),
   )
 
   pub from_inside : v.from < length ds

@@ -61,7 +61,7 @@ unfolding weight_in_map
 weighed m weights osd holds are = elim (cases_lt osd (length m.presences)) [
   | inl below ↦ ap (λ w. w * slice_index m.weights osd) (are.each osd below)
   | inr past ↦
-      let none : slice_index m.weights osd ≡ 0 = get_or_past m.weights osd 0 (omega (arith, holds.weighed, past)) in
+      let none : slice_index m.weights osd ≡ 0 = get_or_past m.weights osd 0 (omega (arith, holds.osds.weighed, past)) in
       rw none (zero_times (get_or weights osd 0) ∙ sym (zero_times (item_weight m.buckets osd)))
 ]
   where

@@ -57,13 +57,13 @@ few_filtered p k n few = omega (arith, length-filter p (range_with_len 0 k), cou
 pub reweight_shown : (m : ClusterMap) (osd : ℕ) → HoldsTogether m → option_map_or (λ s. s.weight) (osd_at m osd) 0 ≡ slice_index m.weights osd
 reweight_shown m osd holds = elim (cases_lt osd (length m.presences)) [
   | inl below ↦ rw (slice_get-get_or m.presences osd (record { exists = false; up = false }) below) refl
-  | inr past ↦ rw (slice_get_past m.presences osd past) (sym (get_or_past m.weights osd 0 (omega (arith, holds.weighed))))
+  | inr past ↦ rw (slice_get_past m.presences osd past) (sym (get_or_past m.weights osd 0 (omega (arith, holds.osds.weighed))))
 ]
 
 -- a reweight of a map is at most 65,536
 pub reweight_small : (m : ClusterMap) (osd : ℕ) → HoldsTogether m → slice_index m.weights osd ≤ 65536
 reweight_small m osd holds = elim (cases_lt osd (length m.weights)) [
-  | inl below ↦ grind (arith, nat_tests, list_all-at (λ w. nat_le w 65536) m.weights osd 0 below holds.weigh_little)
+  | inl below ↦ grind (arith, nat_tests, list_all-at (λ w. nat_le w 65536) m.weights osd 0 below holds.osds.weigh_little)
   | inr past ↦ rw (get_or_past m.weights osd 0 past) (omega arith)
 ]
 

@@ -1,5 +1,4 @@
-//! The limits of items and of buckets. The contracts cite each by the name of its own in specs/Limits.antt; the tests
-//! that use these constants are proved to test those.
+//! The limits of items and of buckets. The definitions of specs/Limits.antt, which clauses cite, are these constants.
 
 /// The lowest id of a bucket. The highest is -1.
 pub const LOWEST_BUCKET: i32 = -65_536;

@@ -1,5 +1,5 @@
-//! The limits of forests, of rules, and of the pools that rules serve. The contracts cite each by the name of its own
-//! in specs/Limits.antt; the tests that use these constants are proved to test those.
+//! The limits of forests, of rules, and of the pools that rules serve. The definitions of specs/Limits.antt, which
+//! clauses cite, are these constants.
 
 pub use buckets::limits::{LOWEST_BUCKET, MAX_DEVICES, MAX_ITEMS, MAX_LEVEL, MAX_STRAWS};
 

@@ -169,7 +169,7 @@ module _ (m : ClusterMap) (c : ChangeParts) (holds : HoldsTogether m) (is : IsCh
       list_fits pos is_osd_id osds (omega (arith, count)) (all_more (osd_exists m) (λ osd. is_osd_id (pos osd)) osds (osd_fine m holds) there)
     where
       osd_below : (osd : ℕ) → osd_exists m osd ≡ true → osd < 4096
-      osd_below osd there' = let below' = below_max m osd 4096 holds.few there' in grind (arith, nat_tests, below')
+      osd_below osd there' = let below' = below_max m osd 4096 holds.osds.few there' in grind (arith, nat_tests, below')
 
   -- so do their new reweights
   weights_fit : list_all (λ w. osd_exists m w.osd) c.weight ≡ true → list_all (λ w. nat_le w.weight 65536) c.weight ≡ true → IsRising (λ w. w.osd) c.weight → entries_fit reweight_fits (map reweight_part c.weight) ≡ true
@@ -181,7 +181,7 @@ module _ (m : ClusterMap) (c : ChangeParts) (holds : HoldsTogether m) (is : IsCh
       (all_both (λ w. osd_exists m w.osd) (λ w. nat_le w.weight 65536) (λ w. reweight_fits (reweight_part w)) one_fits c.weight there light)
     where
       osd_below : (w : Reweight) → osd_exists m w.osd ≡ true → w.osd < 4096
-      osd_below w there' = let below' = below_max m w.osd 4096 holds.few there' in grind (arith, nat_tests, below')
+      osd_below w there' = let below' = below_max m w.osd 4096 holds.osds.few there' in grind (arith, nat_tests, below')
 
       one_fits : (w : Reweight) → osd_exists m w.osd ≡ true → nat_le w.weight 65536 ≡ true → reweight_fits (reweight_part w) ≡ true
       one_fits w there' light' = rw (osd_fine m holds w.osd there', natural_fits 0 4294967295 w.weight (omega arith) (grind (arith, nat_tests, light'))) refl
@@ -250,15 +250,15 @@ module _ (m : ClusterMap) (c : ChangeParts) (holds : HoldsTogether m) (is : IsCh
   limits =
       rw (
         natural_fits 0 18446744073709551615 0 (omega arith) (omega arith),
-        ids_fit m.pools c.old_pools holds.pools_within rises.old_pools (grind (arith, ok.pools)),
+        ids_fit m.pools c.old_pools holds.pools.within rises.old_pools (grind (arith, ok.pools)),
         crush_fine c.new_crush is.crush_map,
         new_pools_fit c.new_pools is.pools_within (comes m c ok is.in_order).pools,
         growths_fit c.grow_pool is.growths_within rises.grow_pool,
         osds_fit c.down rises.down (grind (arith, ok.osds)),
         osds_fit c.up rises.up (grind (arith, ok.osds)),
         weights_fit (grind (arith, ok.osds)) (grind (arith, ok.weights)) rises.weight,
-        groups_fit next.pools c.old_upmap next_holds.pools_within next_holds.few_groups rises.old_upmap (rw pools_next (grind (arith, ok.groups))),
-        groups_fit next.pools c.old_items next_holds.pools_within next_holds.few_groups rises.old_items (rw pools_next (grind (arith, ok.groups))),
+        groups_fit next.pools c.old_upmap next_holds.pools.within next_holds.pools.few_groups rises.old_upmap (rw pools_next (grind (arith, ok.groups))),
+        groups_fit next.pools c.old_items next_holds.pools.within next_holds.pools.few_groups rises.old_items (rw pools_next (grind (arith, ok.groups))),
         explicit_fit,
         items_fit,
       ) refl

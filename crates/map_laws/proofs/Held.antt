@@ -162,26 +162,13 @@ holds_after m (step ∷ steps) holds brings lawful =
 -- what holds in a map does not go by its epoch
 holds_at : (m : ClusterMap) (epoch : ℕ) → HoldsTogether m → HoldsTogether (at_epoch m epoch)
 holds_at m epoch holds = record {
-  some = holds.some;
-  few = holds.few;
-  present = holds.present;
-  weighed = holds.weighed;
-  weigh_little = holds.weigh_little;
-  forest = holds.forest;
+  osds = holds.osds;
+  crush = holds.crush;
   over_osds = holds.over_osds;
-  some_rules = holds.some_rules;
-  few_rules = holds.few_rules;
-  rules_rise = holds.rules_rise;
-  rules_over = holds.rules_over;
-  few_pools = holds.few_pools;
-  pools_rise = holds.pools_rise;
-  pools_within = holds.pools_within;
-  few_groups = holds.few_groups;
+  pools = holds.pools;
   ruled = holds.ruled;
-  explicit_rise = holds.explicit_rise;
-  explicit_sound = holds.explicit_sound;
-  items_rise = holds.items_rise;
-  items_sound = holds.items_sound;
+  explicit = holds.explicit;
+  items = holds.items;
 }
 
 -- the law: a lawful journal of a map that was accepted leads to one that would be, at each epoch of a text

@@ -45,7 +45,7 @@ module _ (m : ClusterMap) (step : Step) (holds : HoldsTogether m) (is : IsChange
   -- the pools after a change that is not refused are within their limits
   pools_next : All IsWithinLimits (pools_after m step.change)
   unfolding apply
-  pools_next = (HoldsTogether-after m step lawful is holds).pools_within
+  pools_next = (HoldsTogether-after m step lawful is holds).pools.within
 
   -- the groups that it names are read back
   accepted_named : (base : ℕ) → HasNamed (change_parts base step.change)

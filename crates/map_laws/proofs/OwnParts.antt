@@ -98,7 +98,7 @@ module _ (m : ClusterMap) (holds : HoldsTogether m) where
         by_pool None is soundly = absurd (false≢true (rw is at soundly))
         by_pool (Some p) is soundly =
             let there = find-place (λ (q : PoolFacts). q.id == e.pg.pool) m.pools p is in
-            let within : IsWithinLimits p = rw there.2 at (holds.pools_within there.0 p there.1) in
+            let within : IsWithinLimits p = rw there.2 at (holds.pools.within there.0 p there.1) in
             let same : (p.id == e.pg.pool) ≡ true = there.3 in
             let says : (nat_lt 0 (length e.entries) && nat_le (length e.entries) p.size && sound e.entries) ≡ true = rw is at soundly in
             record {
@@ -124,8 +124,8 @@ module _ (m : ClusterMap) (holds : HoldsTogether m) where
         let there = AllPass-from_list_all (λ e. has_group m.pools e.pg) es
         (all_more (is_exception names sound m.pools (osd_exists m)) (λ e. has_group m.pools e.pg) es
         (λ e h. and_first (has_group m.pools e.pg) (all_named names (osd_exists m) e) (and_first (has_group m.pools e.pg && all_named names (osd_exists m) e) (is_sound sound m.pools e) h)) all) in
-        let few = few_exceptions m.pools es holds.pools_within rises there in
-        let count = count_fits (exception_part entry_part) 0 1048576 es (omega arith) (omega (arith, few, holds.few_groups)) in
+        let few = few_exceptions m.pools es holds.pools.within rises there in
+        let count = count_fits (exception_part entry_part) 0 1048576 es (omega arith) (omega (arith, few, holds.pools.few_groups)) in
         let entries = list_all-map (exception_fits fits) (exception_part entry_part) es ∙ all_more (is_exception names sound m.pools (osd_exists m)) (λ e. exception_fits fits (exception_part entry_part e)) es one_fits all in
         rw (count, entries) refl
 
@@ -134,7 +134,7 @@ module _ (m : ClusterMap) (holds : HoldsTogether m) where
   unfolding is_osd_id
   osd_fine osd there =
       let below = below_max m osd (length m.presences) (omega arith) there in
-      natural_fits 0 4095 osd (omega arith) (grind (arith, nat_tests, below, holds.few))
+      natural_fits 0 4095 osd (omega arith) (grind (arith, nat_tests, below, holds.osds.few))
 
   -- so has one that a set names, if it exists
   pub target_fine : (osd : ℕ) → list_all (osd_exists m) (target osd) ≡ true → is_osd_id (pos osd) ≡ true
@@ -158,17 +158,17 @@ module _ (m : ClusterMap) (holds : HoldsTogether m) where
       rw (
         version_fine m.rules,
         natural_fits 1 2147483648 m.epoch some most,
-        natural_fits 1 4096 (length m.presences) holds.some holds.few,
-        count_fits bucket_part 1 4096 m.buckets (grind (arith, nat_tests, holds.forest.limits)) (grind (arith, nat_tests, holds.forest.limits)),
-        count_fits rule_part 1 256 m.rules holds.some_rules holds.few_rules,
-        count_fits pool_part 0 256 m.pools (omega arith) holds.few_pools,
-        buckets_fine m.buckets (grind (arith, holds.forest.limits)) (grind (arith, holds.over_osds)),
-        rules_fine m.buckets m.rules holds.rules_over,
-        pools_fine m.pools holds.pools_within,
-        groups_fine m.pools holds.few_groups,
+        natural_fits 1 4096 (length m.presences) holds.osds.some holds.osds.few,
+        count_fits bucket_part 1 4096 m.buckets (grind (arith, nat_tests, holds.crush.forest.limits)) (grind (arith, nat_tests, holds.crush.forest.limits)),
+        count_fits rule_part 1 256 m.rules holds.crush.some_rules holds.crush.few_rules,
+        count_fits pool_part 0 256 m.pools (omega arith) holds.pools.few,
+        buckets_fine m.buckets (grind (arith, holds.crush.forest.limits)) (grind (arith, holds.over_osds)),
+        rules_fine m.buckets m.rules holds.crush.rules_over,
+        pools_fine m.pools holds.pools.within,
+        groups_fine m.pools holds.pools.few_groups,
         own_fit m holds,
-        exceptions_fine target is_set pos is_osd_id target_fine m.explicit holds.explicit_rise holds.explicit_sound,
-        exceptions_fine sides are_pairs pair_part pair_fits pair_fine m.items holds.items_rise holds.items_sound,
+        exceptions_fine target is_set pos is_osd_id target_fine m.explicit holds.explicit.rise holds.explicit.sound,
+        exceptions_fine sides are_pairs pair_part pair_fits pair_fine m.items holds.items.rise holds.items.sound,
       ) refl
 
   -- their buckets pass as a forest
@@ -185,8 +185,8 @@ module _ (m : ClusterMap) (holds : HoldsTogether m) where
   own_rules : rules_ok (parts_of m) ≡ true
   unfolding rules_ok parts_of
   own_rules =
-      let distinct = ap is_distinct (map_twice (λ (r : RulePart). nat_abs r.id) rule_part m.rules) ∙ rising_distinct (λ (r : NumberedRule). r.id) m.rules holds.rules_rise in
-      let lawful = list_all-map (λ (r : RulePart). rule_ok r.kind (map step_of r.steps) (buckets_of (parts_of m))) rule_part m.rules ∙ all_more (is_rule_over m.buckets) _ m.rules one_rule holds.rules_over in
+      let distinct = ap is_distinct (map_twice (λ (r : RulePart). nat_abs r.id) rule_part m.rules) ∙ rising_distinct (λ (r : NumberedRule). r.id) m.rules holds.crush.rules_rise in
+      let lawful = list_all-map (λ (r : RulePart). rule_ok r.kind (map step_of r.steps) (buckets_of (parts_of m))) rule_part m.rules ∙ all_more (is_rule_over m.buckets) _ m.rules one_rule holds.crush.rules_over in
       rw (distinct, lawful) refl
 
   -- pools within their limits, each with its rule, pass as parts
@@ -204,8 +204,8 @@ module _ (m : ClusterMap) (holds : HoldsTogether m) where
   own_pools : pools_ok (parts_of m) ≡ true
   unfolding pools_ok parts_of
   own_pools =
-      let distinct = ap is_distinct (map_twice (λ (q : PoolPart). nat_abs q.id) pool_part m.pools) ∙ rising_distinct (λ (p : PoolFacts). p.id) m.pools holds.pools_rise in
-      rw (distinct, each_pool m.pools holds.pools_within holds.ruled) refl
+      let distinct = ap is_distinct (map_twice (λ (q : PoolPart). nat_abs q.id) pool_part m.pools) ∙ rising_distinct (λ (p : PoolFacts). p.id) m.pools holds.pools.rise in
+      rw (distinct, each_pool m.pools holds.pools.within holds.ruled) refl
 
   -- their OSDs pass
   own_osds : osds_ok (parts_of m) ≡ true
@@ -232,8 +232,8 @@ module _ (m : ClusterMap) (holds : HoldsTogether m) where
         pools_own m,
         explicit_own m,
         items_own m,
-        each_exception target is_set m.explicit holds.explicit_rise holds.explicit_sound,
-        each_exception sides are_pairs m.items holds.items_rise holds.items_sound,
+        each_exception target is_set m.explicit holds.explicit.rise holds.explicit.sound,
+        each_exception sides are_pairs m.items holds.items.rise holds.items.sound,
       ) refl
 
   -- ---- all of it
@@ -249,17 +249,17 @@ module _ (m : ClusterMap) (holds : HoldsTogether m) where
   own_stated = record {
     epoch = refl;
     buckets = rw (buckets_own m) (IsPermutation-refl m.buckets);
-    falling = holds.forest.descending;
+    falling = holds.crush.forest.descending;
     rules = rw (rules_own m) (IsPermutation-refl m.rules);
-    rules_rise = holds.rules_rise;
+    rules_rise = holds.crush.rules_rise;
     pools = rw (pools_own m) (IsPermutation-refl m.pools);
-    pools_rise = holds.pools_rise;
+    pools_rise = holds.pools.rise;
     presences = own_presences m holds;
     weights = own_weights m holds;
     explicit = rw (explicit_own m) (IsPermutation-refl m.explicit);
-    explicit_rise = holds.explicit_rise;
+    explicit_rise = holds.explicit.rise;
     items = rw (items_own m) (IsPermutation-refl m.items);
-    items_rise = holds.items_rise;
+    items_rise = holds.items.rise;
   }
 
   -- so a map whose epoch a text may have states itself

@@ -128,12 +128,12 @@ module _ (m : ClusterMap) (holds : HoldsTogether m) where
   present_at n p here =
       let inside = slice_get_within m.presences n p here in
       let is : get_or m.presences n p ≡ p = let at = slice_get-get_or m.presences n p inside in cc in
-      rw is at (list_all-at is_presence m.presences n p inside holds.present)
+      rw is at (list_all-at is_presence m.presences n p inside holds.osds.present)
 
   little_at : (n : ℕ) → n < length m.presences → slice_index m.weights n ≤ 65536
   little_at n inside =
-      let within : n < length m.weights = rw holds.weighed inside in
-      let test = list_all-at (λ w. nat_le w 65536) m.weights n 0 within holds.weigh_little in
+      let within : n < length m.weights = rw holds.osds.weighed inside in
+      let test = list_all-at (λ w. nat_le w 65536) m.weights n 0 within holds.osds.weigh_little in
       grind (arith, nat_tests, test)
 
   -- ---- tests of each
@@ -154,7 +154,7 @@ module _ (m : ClusterMap) (holds : HoldsTogether m) where
   one_fits n o is =
       let l = is_listed_of m n o is in
       let inside = slice_get_within m.presences n l.presence l.there in
-      let id = natural_fits 0 4095 n (omega arith) (omega (arith, inside, holds.few)) in
+      let id = natural_fits 0 4095 n (omega arith) (omega (arith, inside, holds.osds.few)) in
       let weight = natural_fits 0 65536 (slice_index m.weights n) (omega arith) (little_at n inside) in
       rw l.is (grind (arith, id, weight))
 
@@ -182,4 +182,4 @@ module _ (m : ClusterMap) (holds : HoldsTogether m) where
       rw (own_listed m n inside, here) (sym (weight_own n (slice_index m.weights n) p.exists p.up))
 
   pub own_weights : m.weights ≡ map (weight_in (osd_parts m)) (range_with_len 0 (length m.presences))
-  own_weights = fill_by_all (weight_in (osd_parts m)) m.weights (length m.presences) 0 holds.weighed one_weight
+  own_weights = fill_by_all (weight_in (osd_parts m)) m.weights (length m.presences) 0 holds.osds.weighed one_weight

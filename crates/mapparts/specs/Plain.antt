@@ -1,11 +1,12 @@
 -- The limits of plain clusters, where they are below those that every map and every change keep.
-use Rattle.std.specs.Prelude.{ℕ, ℤ, pos, int_le, int_lt, ◌&&◌, Bool, true, not, List, Option, Some, if◌then◌else◌}
+use Rattle.std.specs.Prelude.{ℕ, ℤ, pos, nat_abs, int_le, int_lt, ◌&&◌, Bool, true, not, List, Option, Some, if◌then◌else◌}
 use Rattle.std.specs.List.{list_all}
 use Rattle.std.specs.Option.{option_map_or}
 use Rattle.refusal.specs.declared.refused.Refusal.{Refusal}
 use Rattle.refusal.specs.declared.refused.Refusal.TheVariants.{BadLimit}
 use Rattle.buckets.specs.Limits.{plain_devices}
 use Rattle.crush.specs.Limits.{plain_buckets}
+use Rattle.mapparts.specs.declared.plain.TheConstants as plain
 use Rattle.mapparts.specs.declared.parts.MapParts.{MapParts}
 use Rattle.mapparts.specs.declared.parts.CrushParts.{CrushParts}
 use Rattle.mapparts.specs.declared.parts.BucketPart.{BucketPart}
@@ -21,23 +22,23 @@ use Rattle.mapparts.specs.Parts.{has_between, pool_fault, growth_fault}
 -- how many groups a pool has at most, how many items a bucket, how many buckets, rules and pools a map, and how many
 -- exceptions of one kind or entries of a list a map or a change
 abbrev pub plain_groups : ℕ
-plain_groups = 4096
+plain_groups = nat_abs plain.PLAIN_GROUPS
 
 abbrev pub plain_items : ℕ
-plain_items = 64
+plain_items = plain.PLAIN_ITEMS
 
 abbrev pub plain_rules : ℕ
-plain_rules = 32
+plain_rules = plain.PLAIN_RULES
 
 abbrev pub plain_pools : ℕ
-plain_pools = 32
+plain_pools = plain.PLAIN_POOLS
 
 abbrev pub plain_entries : ℕ
-plain_entries = 131072
+plain_entries = plain.PLAIN_ENTRIES
 
 -- how many places a pool has at most, and so how many entries an exception, and how many items a choose step chooses
 abbrev pub plain_size : ℕ
-plain_size = 10
+plain_size = plain.PLAIN_SIZE
 
 -- no OSD, or one below the most devices
 abbrev pub osd_is_plain : ℤ → Bool

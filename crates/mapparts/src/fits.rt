@@ -8,8 +8,8 @@ ghost use Rattle.mapparts.specs.Limits.{max_rules, max_first_epoch};
 
 use crate::exceptions::exceptions_fit;
 use crate::limits::{
-    FULL_WEIGHT, LOWEST_BUCKET, MAX_COUNT, MAX_FIRST_EPOCH, MAX_ITEM_WEIGHT, MAX_LEVEL, MAX_OSDS,
-    MAX_POOLS, MAX_RULE_ID, MAX_RULES, MAX_STABLE, MAX_TRIES, MAX_VARY, MAX_VERSION,
+    FULL_WEIGHT, LOWEST_BUCKET, MAX_COUNT, MAX_FIRST_EPOCH, MAX_ITEM_WEIGHT, MAX_LEVEL, MAX_OSD_ID,
+    MAX_OSDS, MAX_POOLS, MAX_RULE_ID, MAX_RULES, MAX_STABLE, MAX_TRIES, MAX_VARY, MAX_VERSION,
 };
 use crate::numbers::{has_between, is_between, is_bucket_id};
 use crate::parts::{
@@ -43,7 +43,7 @@ impl Limited for ItemPart {
 
     #[tactic(auto, unfolding(crate::specs::Parts::item_fits))]
     fn is_within(&self) -> bool {
-        is_between(LOWEST_BUCKET, MAX_OSDS - 1, self.id)
+        is_between(LOWEST_BUCKET, MAX_OSD_ID, self.id)
             && is_between(1, MAX_ITEM_WEIGHT, self.weight)
     }
 }
@@ -102,7 +102,7 @@ impl Limited for OsdPart {
 
     #[tactic(auto, unfolding(crate::specs::Parts::osd_fits))]
     fn is_within(&self) -> bool {
-        is_between(0, MAX_OSDS - 1, self.id) && is_between(0, i128::from(FULL_WEIGHT), self.weight)
+        is_between(0, MAX_OSD_ID, self.id) && is_between(0, i128::from(FULL_WEIGHT), self.weight)
     }
 }
 

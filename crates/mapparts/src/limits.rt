@@ -1,6 +1,5 @@
 //! The limits of maps and changes, each named once; those of buckets are those of `buckets`, those of forests and rules
-//! those of `crush`. The contracts cite each by the name of its own in specs/Limits.antt, and the tests that use these
-//! constants are proved to test those.
+//! those of `crush`. The definitions of specs/Limits.antt, which clauses cite, are these constants.
 
 use crush::limits;
 
@@ -10,6 +9,8 @@ pub const MAX_VERSION: i128 = 2;
 pub const MAX_FIRST_EPOCH: i128 = 2_147_483_648;
 /// The greatest `max_osd`.
 pub const MAX_OSDS: i128 = buckets::limits::MAX_DEVICES as i128;
+/// The greatest id of an OSD.
+pub const MAX_OSD_ID: i128 = MAX_OSDS - 1;
 /// The greatest `max_osd` of a plain cluster.
 pub const MAX_PLAIN_OSDS: i128 = buckets::limits::PLAIN_DEVICES as i128;
 /// The lowest id of a bucket.

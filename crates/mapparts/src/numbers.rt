@@ -6,7 +6,7 @@ ghost use Rattle.mapparts.specs.Parts.{is_between, has_between, is_osd_id};
 ghost use Rattle.mapparts.specs.Plain.{osd_is_plain};
 ghost use Rattle.buckets.specs.Limits.{max_devices};
 
-use crate::limits::{LOWEST_BUCKET, MAX_OSDS, MAX_PLAIN_OSDS};
+use crate::limits::{LOWEST_BUCKET, MAX_OSD_ID, MAX_PLAIN_OSDS};
 
 /// Whether a number is among `low` to `high`.
 #[tactic(auto, unfolding(crate::specs::Parts::is_between))]
@@ -32,7 +32,7 @@ pub fn is_osd_id(number: i128) -> bool
     ensures value { result ≡ is_osd_id number }
     ensures device { result ≡ true → nat_abs number < max_devices }
 {
-    is_between(0, MAX_OSDS - 1, number)
+    is_between(0, MAX_OSD_ID, number)
 }
 
 /// Whether a number is no OSD, or one that a plain cluster may have.

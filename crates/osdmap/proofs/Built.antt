@@ -320,24 +320,22 @@ holds p m built =
     let many : length m.presences ≡ nat_abs p.max_osd = ap length built.presences ∙ length-map rows row_presence ∙ length-map (range_with_len 0 (nat_abs p.max_osd)) _ ∙ length-range_with_len 0 (nat_abs p.max_osd) in
     let each = parts_fit_each p built.limits in
     record {
-      some = rw many (some_osds p each);
-      few = rw many (few_osds p each);
-      present = present p m built;
-      weighed = ap length built.weights ∙ length-map rows row_weight ∙ sym (ap length built.presences ∙ length-map rows row_presence);
-      weigh_little = weigh_little p m built each.osds;
-      forest = built.crush.forest;
+      osds = record {
+        some = rw many (some_osds p each);
+        few = rw many (few_osds p each);
+        present = present p m built;
+        weighed = ap length built.weights ∙ length-map rows row_weight ∙ sym (ap length built.presences ∙ length-map rows row_presence);
+        weigh_little = weigh_little p m built each.osds;
+      };
+      crush = built.crush;
       over_osds = rw many (forest_ok-moved (buckets_of p) m.buckets built.stated.buckets.same (nat_abs p.max_osd) ∙ forest_fine _ (rules_fit (buckets_of p) p.rules) built.grown);
-      some_rules = built.crush.some_rules;
-      few_rules = built.crush.few_rules;
-      rules_rise = built.crush.rules_rise;
-      rules_over = built.crush.rules_over;
-      few_pools = few_pools p m built each.pool_count;
-      pools_rise = built.pools.rising;
-      pools_within = pools_within p m built each.pools;
-      few_groups = few_groups p m built each.groups;
+      pools = record {
+        few = few_pools p m built each.pool_count;
+        rise = built.pools.rising;
+        within = pools_within p m built each.pools;
+        few_groups = few_groups p m built each.groups;
+      };
       ruled = ruled p m built;
-      explicit_rise = rw built.explicit (λ i j d below inside. absurd (omega arith));
-      explicit_sound = rw built.explicit refl;
-      items_rise = rw built.items (λ i j d below inside. absurd (omega arith));
-      items_sound = rw built.items refl;
+      explicit = record { rise = rw built.explicit (λ i j d below inside. absurd (omega arith)); sound = rw built.explicit refl };
+      items = record { rise = rw built.items (λ i j d below inside. absurd (omega arith)); sound = rw built.items refl };
     }

@@ -216,26 +216,13 @@ module _ (p : MapParts) (limits : parts_fit p ≡ true) where
 
       pub holds_with : HoldsTogether m → HoldsTogether (record m { explicit = explicit; items = items })
       holds_with holds = record {
-        some = holds.some;
-        few = holds.few;
-        present = holds.present;
-        weighed = holds.weighed;
-        weigh_little = holds.weigh_little;
-        forest = holds.forest;
+        osds = holds.osds;
+        crush = holds.crush;
         over_osds = holds.over_osds;
-        some_rules = holds.some_rules;
-        few_rules = holds.few_rules;
-        rules_rise = holds.rules_rise;
-        rules_over = holds.rules_over;
-        few_pools = holds.few_pools;
-        pools_rise = holds.pools_rise;
-        pools_within = holds.pools_within;
-        few_groups = holds.few_groups;
+        pools = holds.pools;
         ruled = holds.ruled;
-        explicit_rise = explicit_rises.rising;
-        explicit_sound = still_sound target is_set (explicit_of p) explicit explicit_fine explicit_rises.same;
-        items_rise = items_rise.rising;
-        items_sound = still_sound sides are_pairs (items_of p) items items_fine items_rise.same;
+        explicit = record { rise = explicit_rises.rising; sound = still_sound target is_set (explicit_of p) explicit explicit_fine explicit_rises.same };
+        items = record { rise = items_rise.rising; sound = still_sound sides are_pairs (items_of p) items items_fine items_rise.same };
       }
         where
           still_sound : {E : Type 0} (names : E → List ℕ) (sound : List E → Bool) (given sorted : List (Exception E))

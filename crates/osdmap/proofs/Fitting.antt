@@ -108,10 +108,10 @@ module _ (m : ClusterMap) (p : PoolFacts) (n : ℕ) (holds : HoldsTogether m) (t
       by_entry (Some e) found =
           let same : Some e.entries ≡ Some osds = rw found at said in
           let is : e.entries ≡ osds = cc in
-          let passes = found_passes _ (is_exception target is_set m.pools (osd_exists m)) m.explicit e found holds.explicit_sound in
+          let passes = found_passes _ (is_exception target is_set m.pools (osd_exists m)) m.explicit e found holds.explicit.sound in
           let key : pg_key e.pg ≡ pg_key (group_of p n) = eqb-true _ _ (found_is (λ x. eqb (key_of x) (pg_key (group_of p n))) m.explicit e found) in
           let has = and_first (has_group m.pools e.pg) (all_named target (osd_exists m) e) (and_first (has_group m.pools e.pg && all_named target (osd_exists m) e) (is_sound is_set m.pools e) passes) in
-          let id : e.pg.pool ≡ p.id = same_pool e.pg.pool p.id e.pg.number n key (few_numbers m.pools e.pg holds.pools_within has) below in
+          let id : e.pg.pool ≡ p.id = same_pool e.pg.pool p.id e.pg.number n key (few_numbers m.pools e.pg holds.pools.within has) below in
           let sound : says_soundly is_set p e ≡ true = rw (id, there) at (and_second (has_group m.pools e.pg && all_named target (osd_exists m) e) (is_sound is_set m.pools e) passes) in
           let few : nat_le (length e.entries) p.size ≡ true = and_second (nat_lt 0 (length e.entries)) _ (and_first _ (is_set e.entries) sound) in
           let short : length e.entries ≤ p.size = grind (arith, nat_tests, few) in
@@ -132,4 +132,4 @@ module _ (m : ClusterMap) (p : PoolFacts) (n : ℕ) (holds : HoldsTogether m) (t
 
 -- a pool of a map is within its limits
 pub pool_within : (m : ClusterMap) (p : PoolFacts) → HoldsTogether m → pool_at m.pools p.id ≡ Some p → IsWithinLimits p
-pool_within m p holds there = found_of_all IsWithinLimits (λ q. eqb q.id p.id) m.pools p there holds.pools_within
+pool_within m p holds there = found_of_all IsWithinLimits (λ q. eqb q.id p.id) m.pools p there holds.pools.within

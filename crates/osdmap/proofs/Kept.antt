@@ -241,10 +241,7 @@ crush-after m c lawful below holds = by_crush c.new_crush lawful below
   where
     by_crush : (o : Option CrushFacts) → IfSome o IsCrushMap → option_map_or (λ k. has_devices_below (length m.presences) k.buckets) o true ≡ true
         → CrushKept m (record c { new_crush = o })
-    by_crush None lawful' below' = record {
-      crush = record { forest = holds.forest; some_rules = holds.some_rules; few_rules = holds.few_rules; rules_rise = holds.rules_rise; rules_over = holds.rules_over };
-      over_osds = holds.over_osds;
-    }
+    by_crush None lawful' below' = record { crush = holds.crush; over_osds = holds.over_osds }
     by_crush (Some k) lawful' below' = record { crush = lawful'; over_osds = over_devices k.buckets (length m.presences) lawful'.forest below' }
 
 -- exceptions that stay and come rise by group
@@ -257,14 +254,14 @@ explicit-after : (m : ClusterMap) (step : Step) → Accepted m step.change → H
     → list_all (is_exception target is_set (pools_after m step.change) (osd_exists (apply m step))) (exceptions_after step.change.old_pools step.change.old_upmap step.change.new_upmap m.explicit) ≡ true
 unfolding names_osds names_groups all_named_groups excepts_soundly
 explicit-after m step ok holds =
-    exceptions-sound target is_set m step ok.new (rightly-each m step.change ok.rightly).grow step.change.old_upmap step.change.new_upmap m.explicit holds.explicit_sound (grind (arith, ok.osds)) (grind (arith, ok.groups)) (grind (arith, ok.sound))
+    exceptions-sound target is_set m step ok.new (rightly-each m step.change ok.rightly).grow step.change.old_upmap step.change.new_upmap m.explicit holds.explicit.sound (grind (arith, ok.osds)) (grind (arith, ok.groups)) (grind (arith, ok.sound))
 
 -- so are the pairs
 items-after : (m : ClusterMap) (step : Step) → Accepted m step.change → HoldsTogether m
     → list_all (is_exception sides are_pairs (pools_after m step.change) (osd_exists (apply m step))) (exceptions_after step.change.old_pools step.change.old_items step.change.new_items m.items) ≡ true
 unfolding names_osds names_groups all_named_groups excepts_soundly
 items-after m step ok holds =
-    exceptions-sound sides are_pairs m step ok.new (rightly-each m step.change ok.rightly).grow step.change.old_items step.change.new_items m.items holds.items_sound (grind (arith, ok.osds)) (grind (arith, ok.groups)) (grind (arith, ok.sound))
+    exceptions-sound sides are_pairs m step ok.new (rightly-each m step.change ok.rightly).grow step.change.old_items step.change.new_items m.items holds.items.sound (grind (arith, ok.osds)) (grind (arith, ok.groups)) (grind (arith, ok.sound))
 
 -- there is a reweight for each OSD as before
 weights-after : (m : ClusterMap) (step : Step) → length (apply m step).weights ≡ length m.weights
@@ -279,26 +276,30 @@ HoldsTogether-after m step lawful is holds =
     let rightly = rightly-each m step.change ok.rightly in
     let kept = crush-after m step.change is.crush_map ok.forest holds in
     record {
-      some = subst (λ n. 1 ≤ n) (sym (length-apply m step)) holds.some;
-      few = subst (λ n. n ≤ 4096) (sym (length-apply m step)) holds.few;
-      present = present-after m step ok.osds holds.present;
-      weighed = weights-after m step ∙ holds.weighed ∙ sym (length-apply m step);
-      weigh_little = little-after m step.change ok.weights holds.weigh_little;
-      forest = kept.crush.forest;
+      osds = record {
+        some = subst (λ n. 1 ≤ n) (sym (length-apply m step)) holds.osds.some;
+        few = subst (λ n. n ≤ 4096) (sym (length-apply m step)) holds.osds.few;
+        present = present-after m step ok.osds holds.osds.present;
+        weighed = weights-after m step ∙ holds.osds.weighed ∙ sym (length-apply m step);
+        weigh_little = little-after m step.change ok.weights holds.osds.weigh_little;
+      };
+      crush = kept.crush;
       over_osds = subst (λ n. forest_ok (buckets_after m step.change) n ≡ true) (sym (length-apply m step)) kept.over_osds;
-      some_rules = kept.crush.some_rules;
-      few_rules = kept.crush.few_rules;
-      rules_rise = kept.crush.rules_rise;
-      rules_over = kept.crush.rules_over;
-      few_pools = few-after m step.change rightly;
-      pools_rise = pools-rise m step.change holds.pools_rise;
-      pools_within = within-after m step.change is.pools_within is.growths_within holds.pools_within;
-      few_groups = groups-after m step.change rightly ok.once;
+      pools = record {
+        few = few-after m step.change rightly;
+        rise = pools-rise m step.change holds.pools.rise;
+        within = within-after m step.change is.pools_within is.growths_within holds.pools.within;
+        few_groups = groups-after m step.change rightly ok.once;
+      };
       ruled = ruled-after m step.change rightly;
-      explicit_rise = exceptions-rise step.change.old_pools step.change.old_upmap step.change.new_upmap m.explicit holds.explicit_rise;
-      explicit_sound = explicit-after m step ok holds;
-      items_rise = exceptions-rise step.change.old_pools step.change.old_items step.change.new_items m.items holds.items_rise;
-      items_sound = items-after m step ok holds;
+      explicit = record {
+        rise = exceptions-rise step.change.old_pools step.change.old_upmap step.change.new_upmap m.explicit holds.explicit.rise;
+        sound = explicit-after m step ok holds;
+      };
+      items = record {
+        rise = exceptions-rise step.change.old_pools step.change.old_items step.change.new_items m.items holds.items.rise;
+        sound = items-after m step ok holds;
+      };
     }
 
 -- ---- the map after a change, put together

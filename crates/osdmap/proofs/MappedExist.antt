@@ -103,7 +103,7 @@ module _ (m : ClusterMap) where
 
   items_there : (g : Pg) (items : Option (List Pair)) (places : List (Option ℕ)) → HoldsTogether m → said_of m.items g ≡ items → All IsThere places → All IsThere (with_items m.weights places items)
   items_there g None places holds said all = all
-  items_there g (Some pairs) places holds said all = pairs_there m.weights pairs places (said_there sides are_pairs m.items g pairs holds.items_sound said) all
+  items_there g (Some pairs) places holds said all = pairs_there m.weights pairs places (said_there sides are_pairs m.items g pairs holds.items.sound said) all
 
   mapped_there : (g : Pg) (explicit : Option (List ℕ)) (raw : List (Option ℕ)) → HoldsTogether m → said_of m.explicit g ≡ explicit → All IsThere raw → All IsThere (with_exceptions m.weights explicit (said_of m.items g) raw)
   unfolding with_exceptions
@@ -112,7 +112,7 @@ module _ (m : ClusterMap) where
     where
       by_test : (b : Bool) → All IsThere (if b then raw else with_items m.weights (map (λ osd. Some osd) osds) (said_of m.items g))
       by_test true = all
-      by_test false = items_there g (said_of m.items g) (map (λ osd. Some osd) osds) holds refl (targets_there osds (said_there target is_set m.explicit g osds holds.explicit_sound said))
+      by_test false = items_there g (said_of m.items g) (map (λ osd. Some osd) osds) holds refl (targets_there osds (said_there target is_set m.explicit g osds holds.explicit.sound said))
 
 -- each OSD of a mapped set exists
 pub mapped_exist : (m : ClusterMap) (p : PoolFacts) (n : ℕ) → HoldsTogether m → All (λ place. IfSome place (λ osd. osd_exists m osd ≡ true)) (mapped_set m p n)

@@ -70,9 +70,9 @@ placed_alike m other ws p n buckets rules weights holds has none = rw (buckets, 
         → run_of (world_of m.buckets m.weights (placement_input p n)) (steps_of m p) p.size ≡ run_of (world_of m.buckets (fold with_weight m.weights ws) (placement_input p n)) (steps_of m p) p.size
     by_rule None found = absurd (not_both _ has (rw found refl))
     by_rule (Some r) found =
-        let lawful = rule_lawful m.buckets r (found_passes _ (is_rule_over m.buckets) m.rules r found holds.rules_over) in
+        let lawful = rule_lawful m.buckets r (found_passes _ (is_rule_over m.buckets) m.rules r found holds.crush.rules_over) in
         let nowhere : list_any (λ w. paths.reaches m.buckets r.rule.steps (pos w.osd)) ws ≡ false = rw found at none in
-        rw found (run_reads_reached m.buckets r.rule.kind r.rule.steps m.weights (fold with_weight m.weights ws) (placement_input p n) p.size holds.forest lawful
+        rw found (run_reads_reached m.buckets r.rule.kind r.rule.steps m.weights (fold with_weight m.weights ws) (placement_input p n) p.size holds.crush.forest lawful
         (λ osd reached. sym (weight_stays m.weights ws osd (unreached (λ o. paths.reaches m.buckets r.rule.steps (pos o)) ws osd reached nowhere))))
 
 -- the forest and the rules stay where none come
@@ -181,12 +181,12 @@ pool_there m step p found none =
 -- the explicit set of a group that a change does not concern stays
 explicit_stays : (m : ClusterMap) (step : Step) (g : Pg) → HoldsTogether m → g.number < 2 ^ 32 → has_key (λ k. k) step.change.old_pools g.pool ≡ false → IsUnconcerned (apply m step) step.change g → said_of (apply m step).explicit g ≡ said_of m.explicit g
 unfolding apply
-explicit_stays m step g holds few pool none = said_stays target _ m holds.pools_within step.change.old_pools step.change.old_upmap step.change.new_upmap m.explicit g few pool none.old_upmap none.new_upmap holds.explicit_sound
+explicit_stays m step g holds few pool none = said_stays target _ m holds.pools.within step.change.old_pools step.change.old_upmap step.change.new_upmap m.explicit g few pool none.old_upmap none.new_upmap holds.explicit.sound
 
 -- so do its pairs
 items_stay : (m : ClusterMap) (step : Step) (g : Pg) → HoldsTogether m → g.number < 2 ^ 32 → has_key (λ k. k) step.change.old_pools g.pool ≡ false → IsUnconcerned (apply m step) step.change g → said_of (apply m step).items g ≡ said_of m.items g
 unfolding apply
-items_stay m step g holds few pool none = said_stays sides _ m holds.pools_within step.change.old_pools step.change.old_items step.change.new_items m.items g few pool none.old_items none.new_items holds.items_sound
+items_stay m step g holds few pool none = said_stays sides _ m holds.pools.within step.change.old_pools step.change.old_items step.change.new_items m.items g few pool none.old_items none.new_items holds.items.sound
 
 -- and the reweights of the OSDs that both name
 weights_agree : (m : ClusterMap) (step : Step) (g : Pg) → IsUnconcerned (apply m step) step.change g → said_of (apply m step).explicit g ≡ said_of m.explicit g → said_of (apply m step).items g ≡ said_of m.items g
@@ -204,7 +204,7 @@ others_stay m step p n holds lawful found inside none =
     let touched = or_first (is_touched (apply m step) step.change p) (concerns (apply m step) step.change (group_of p n)) none in
     let quiet = unconcerned (apply m step) step.change (group_of p n) (or_second (is_touched (apply m step) step.change p) (concerns (apply m step) step.change (group_of p n)) none) in
     let there = pool_there m step p found touched in
-    let limits = found_of_all IsWithinLimits (λ q. eqb q.id p.id) m.pools p there.1 holds.pools_within in
+    let limits = found_of_all IsWithinLimits (λ q. eqb q.id p.id) m.pools p there.1 holds.pools.within in
     let few : n < 2 ^ 32 = omega (arith, inside, limits.groups_most) in
     let has = found_passes _ (has_rule m.rules) m.pools p there.1 holds.ruled in
     let explicit = explicit_stays m step (group_of p n) holds few there.0 quiet in

@@ -6,7 +6,7 @@ use Rattle.std.specs.Option.{option_map, option_map_or}
 use Rattle.buckets.specs.declared.bucket.Bucket.{Bucket}
 use Rattle.crush.specs.declared.step.RuleKind.{RuleKind}
 use Rattle.crush.specs.declared.step.RuleKind.TheVariants.{Replicated, Erasure}
-use Rattle.crush.specs.WellFormed.{forest_ok, IsForest}
+use Rattle.crush.specs.WellFormed.{forest_ok}
 use Rattle.maptypes.specs.declared.osd.Presence.{Presence}
 use Rattle.maptypes.specs.declared.osd.OsdState.{OsdState}
 use Rattle.maptypes.specs.declared.rules.NumberedRule.{NumberedRule}
@@ -15,9 +15,9 @@ use Rattle.maptypes.specs.declared.exception.Pair.{Pair}
 use Rattle.maptypes.specs.Exceptions.{key_of, is_exception, target, sides, is_set, are_pairs}
 use Rattle.keylist.specs.Order.{IsRising}
 use Rattle.buckets.specs.Limits.{max_devices}
-use Rattle.mapparts.specs.Limits.{max_rules, max_pools, max_total_groups}
+use Rattle.mapparts.specs.Limits.{max_pools, max_total_groups}
 use Rattle.crush.specs.Limits.{full_weight}
-use Rattle.maptypes.specs.CrushMaps.{rule_at, is_rule_over}
+use Rattle.maptypes.specs.CrushMaps.{rule_at, IsCrushMap}
 use Rattle.maptypes.specs.Pools.{PoolFacts, total_groups, IsWithinLimits}
 
 -- what callers see of a map: its epoch, the buckets of its forest by id downwards, its rules and pools by id upwards,
@@ -69,27 +69,33 @@ has_rule rules p = option_map_or (λ r. is_kind r.kind p.kind) (rule_at rules p.
 abbrev pub is_presence : Presence → Bool
 is_presence p = not p.up || p.exists
 
--- what holds in every map: there are 1 to 4,096 OSDs, of which only those that exist are up, each with a reweight of at
--- most 65,536; a forest over them; 1 to 256 rules over it by id upwards; at most 256 pools by id upwards, each within
--- its limits and with a rule of its kind; and exceptions by group upwards, each of them soundly
+-- what holds of the OSDs of a map: there are 1 to 4,096, of which only those that exist are up, each with a reweight of
+-- at most 65,536
+pub record AreOsds (presences : List Presence) (weights : List ℕ) : Type 0 where
+  pub some : 1 ≤ length presences
+  pub few : length presences ≤ max_devices
+  pub present : list_all is_presence presences ≡ true
+  pub weighed : length weights ≡ length presences
+  pub weigh_little : list_all (λ w. nat_le w full_weight) weights ≡ true
+
+-- what holds of its pools: at most 256 by id upwards, each within its limits, and not too many groups together
+pub record ArePools (pools : List PoolFacts) : Type 0 where
+  pub few : length pools ≤ max_pools
+  pub rise : IsRising (λ p. p.id) pools
+  pub within : All IsWithinLimits pools
+  pub few_groups : total_groups pools ≤ max_total_groups
+
+-- what holds of its exceptions of one kind: they stand by group upwards, each of them soundly
+pub record AreExceptions {E : Type 0} (is_sound : Exception E → Bool) (exceptions : List (Exception E)) : Type 0 where
+  pub rise : IsRising key_of exceptions
+  pub sound : list_all is_sound exceptions ≡ true
+
+-- what holds in every map: its OSDs; a CRUSH map over them; pools, each with a rule of its kind; and exceptions
 pub record HoldsTogether (m : ClusterMap) : Type 0 where
-  pub some : 1 ≤ length m.presences
-  pub few : length m.presences ≤ max_devices
-  pub present : list_all is_presence m.presences ≡ true
-  pub weighed : length m.weights ≡ length m.presences
-  pub weigh_little : list_all (λ w. nat_le w full_weight) m.weights ≡ true
-  pub forest : IsForest m.buckets
+  pub osds : AreOsds m.presences m.weights
+  pub crush : IsCrushMap (record { buckets = m.buckets; rules = m.rules })
   pub over_osds : forest_ok m.buckets (length m.presences) ≡ true
-  pub some_rules : 1 ≤ length m.rules
-  pub few_rules : length m.rules ≤ max_rules
-  pub rules_rise : IsRising (λ r. r.id) m.rules
-  pub rules_over : list_all (is_rule_over m.buckets) m.rules ≡ true
-  pub few_pools : length m.pools ≤ max_pools
-  pub pools_rise : IsRising (λ p. p.id) m.pools
-  pub pools_within : All IsWithinLimits m.pools
-  pub few_groups : total_groups m.pools ≤ max_total_groups
+  pub pools : ArePools m.pools
   pub ruled : list_all (has_rule m.rules) m.pools ≡ true
-  pub explicit_rise : IsRising key_of m.explicit
-  pub explicit_sound : list_all (is_exception target is_set m.pools (osd_exists m)) m.explicit ≡ true
-  pub items_rise : IsRising key_of m.items
-  pub items_sound : list_all (is_exception sides are_pairs m.pools (osd_exists m)) m.items ≡ true
+  pub explicit : AreExceptions (is_exception target is_set m.pools (osd_exists m)) m.explicit
+  pub items : AreExceptions (is_exception sides are_pairs m.pools (osd_exists m)) m.items

@@ -35,7 +35,7 @@ small_place m (Some osd) few is = let below : nat_lt osd 4096 ≡ true = below_m
 
 -- so are all of a mapped set
 pub mapped_small : (m : ClusterMap) (p : PoolFacts) (n : ℕ) (set : List (Option ℕ)) → HoldsTogether m → set ≡ mapped_set m p n → All (λ place. IfSome place (λ osd. osd < 4096)) set
-mapped_small m p n set holds is k d inside = small_place m (get_or set k d) holds.few (rw (← is) at (mapped_exist m p n holds) k d inside)
+mapped_small m p n set holds is k d inside = small_place m (get_or set k d) holds.osds.few (rw (← is) at (mapped_exist m p n holds) k d inside)
 
 -- a pool has at most 65,536 sets
 pub few_sets : (m : ClusterMap) (p : PoolFacts) (sets : List (List (Option ℕ))) → p.pg_num ≤ 65536 → sets ≡ sets_of m p → length sets ≤ 65536
@@ -53,7 +53,7 @@ rising_tables m holds i j d less inside =
     let last : j < length m.pools = omega (arith, length-map m.pools (pool_table m), inside) in
     let first = get_or-map (pool_table m) m.pools i d.pool d (omega arith) in
     let second = get_or-map (pool_table m) m.pools j d.pool d last in
-    rw (first, second) (holds.pools_rise i j d.pool less last)
+    rw (first, second) (holds.pools.rise i j d.pool less last)
 
 -- and as many bits as OSDs
 pub few_ups : (m : ClusterMap) (n : ℕ) → length m.presences ≤ n → length (ups_of m) ≤ n

@@ -140,7 +140,7 @@ module _ (old : List PoolTable) (m : ClusterMap) where
       rises i j first last less =
           let at = get_or_from_slice_get m.pools i (pool i first) (pool i first) (there i first) in
           let behind = get_or_from_slice_get m.pools j (pool j last) (pool i first) (there j last) in
-          rw (at, behind) at (holds.pools_rise i j (pool i first) less last)
+          rw (at, behind) at (holds.pools.rise i j (pool i first) less last)
 
 -- ---- evaluations
 
@@ -157,7 +157,7 @@ few_evals m c (p ∷ ps) within =
 
 -- all pools have at most 16,777,216
 pub evals_whole : (m : ClusterMap) (c : ChangeParts) → HoldsTogether m → sum_by (evals_in m c) m.pools ≤ 16777216
-evals_whole m c holds = omega (arith, few_evals m c m.pools holds.pools_within, holds.few_pools)
+evals_whole m c holds = omega (arith, few_evals m c m.pools holds.pools.within, holds.pools.few)
 
 -- the evaluations of the pools so far, at the end, are all
 pub evals_all : (m : ClusterMap) (c : ChangeParts) (n : ℕ) → length m.pools ≤ n → sum_by (evals_in m c) (take n m.pools) ≡ evals_of m c

@@ -116,7 +116,7 @@ table_at t m i q is at = by_pool (slice_get m.pools i) refl
     by_pool (Some p) found =
         let same : Some (pool_table m p) ≡ Some q = rw found at tables in
         let e : q ≡ pool_table m p = cc in
-        let there = found_at (λ (r : PoolFacts). r.id) m.pools i p is.holds.pools_rise (slice_get_within m.pools i p found) (sym (get_or_from_slice_get m.pools i p p found)) in
+        let there = found_at (λ (r : PoolFacts). r.id) m.pools i p is.holds.pools.rise (slice_get_within m.pools i p found) (sym (get_or_from_slice_get m.pools i p p found)) in
         rw e (refl, there, found)
 
 -- so all tables with what they get are those of the map after the change

@@ -177,7 +177,7 @@ index_shown m osd false rises is = sym (index_down m osd m.pools is (all_found m
 
 -- so the table's groups of an OSD are those that the map says
 pub groups_shown : (t : TableFacts) (m : ClusterMap) (osd : ℕ) → IsTableOf t m → shown_groups t osd ≡ index_of m osd
-groups_shown t m osd is = rw (is.pools, is.up, up_in m osd) (index_shown m osd (osd_is_up m osd) is.holds.pools_rise refl)
+groups_shown t m osd is = rw (is.pools, is.up, up_in m osd) (index_shown m osd (osd_is_up m osd) is.holds.pools.rise refl)
 
 -- ---- the index in a pool
 
@@ -236,7 +236,7 @@ count_of_pool m osd false (Some p) is = rw (none_down m osd p is) refl
 -- so the table's count in a pool is the one that the map says
 pub count_shown : (t : TableFacts) (m : ClusterMap) (pool osd : ℕ) → IsTableOf t m → shown_in t pool osd ≡ count_in m pool osd
 count_shown t m pool osd is =
-    let parts = index_parts m osd m.pools (all_found m is.holds.pools_rise) in
-    let one = in_pool (λ p. filter (λ n. stands osd (up_set m p n)) (range_with_len 0 p.pg_num)) pool m.pools is.holds.pools_rise in
+    let parts = index_parts m osd m.pools (all_found m is.holds.pools.rise) in
+    let one = in_pool (λ p. filter (λ n. stands osd (up_set m p n)) (range_with_len 0 p.pg_num)) pool m.pools is.holds.pools.rise in
     rw (is.pools, is.up, up_in m osd, find_map (λ (q : PoolTable). eqb q.pool.id pool) (pool_table m) m.pools)
     (count_of_pool m osd (osd_is_up m osd) (pool_at m.pools pool) refl ∙ sym (ap length (ap (filter (λ g. eqb g.pool pool)) parts ∙ one)))

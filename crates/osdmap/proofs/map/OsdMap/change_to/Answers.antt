@@ -32,7 +32,7 @@ pub set_weights-requires : goal.set_weights-requires
 set_weights-requires c =
     let sized : length c.args.self.now.map.presences ≤ length c.self.inside.presences = subst (λ (k : StoredMap). length k.map.presences ≤ length c.self.inside.presences) c.self.view_is (omega arith) in
     let below = all_below c.args.self.now.map c.args.change.now (length c.self.inside.presences) sized (accepted _ _ c.requires.lawful).osds in
-    rw (c.deref-6.ensures, c.parts-parts.ensures.value, c.self.invariant.weighed) below.weight
+    rw (c.deref-6.ensures, c.parts-parts.ensures.value, c.self.invariant.osds.weighed) below.weight
 
 pub change_exceptions-requires : goal.change_exceptions-requires
 change_exceptions-requires c =
@@ -41,7 +41,7 @@ change_exceptions-requires c =
     let room = rw (← c.self.view_is) at c.requires.room in (
       search rules,
       (
-        c.self.invariant.explicit_rise,
+        c.self.invariant.explicit.rise,
         (
           rw (c.deref-7.ensures, c.parts-parts.ensures.value) order.old_pools,
           (
@@ -59,7 +59,7 @@ change_exceptions-requires-2 c =
     let room = rw (← c.self.view_is) at c.requires.room in (
       search rules,
       (
-        c.self.invariant.items_rise,
+        c.self.invariant.items.rise,
         (
           rw (c.deref-10.ensures, c.parts-parts.ensures.value) order.old_pools,
           (

@@ -3,7 +3,7 @@ use Rattle.pgtable.proofs.table.PgTable.build.Goals as goal
 
 pub invariant_of-result : goal.invariant_of-result
 invariant_of-result c = record {
-  few_pools = rw c.in_ok-pools.ensures.tables (few_tables c.args.map.now.map 256 c.holds_together.ensures.few_pools);
+  few_pools = rw c.in_ok-pools.ensures.tables (few_tables c.args.map.now.map 256 c.holds_together.ensures.pools.few);
   pools_rise = rw c.in_ok-pools.ensures.tables (rising_tables c.args.map.now.map c.holds_together.ensures);
-  few_osds = rw c.in_ok-up.ensures (few_ups c.args.map.now.map 4096 c.holds_together.ensures.few);
+  few_osds = rw c.in_ok-up.ensures (few_ups c.args.map.now.map 4096 c.holds_together.ensures.osds.few);
 }

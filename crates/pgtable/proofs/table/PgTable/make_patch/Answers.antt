@@ -32,7 +32,7 @@ returns c =
     let lead = c.in_ok-tables.ensures.lead in
     record {
       leads = record {
-        fits = record { pools = lead.fits; rise = rw lead.tables (rising_tables (map_after u) holds); few_osds = rw up (few_ups (map_after u) 4096 holds.few) };
+        fits = record { pools = lead.fits; rise = rw lead.tables (rising_tables (map_after u) holds); few_osds = rw up (few_ups (map_after u) 4096 holds.osds.few) };
         table = record { holds = holds; pools = lead.tables; up = up };
       };
       counted = c.in_ok-tables.ensures.evals;

@@ -6,4 +6,4 @@ pub of-requires : goal.of-requires
 of-requires c =
     let inside = rw c.pools-pool-items.ensures at c.loop-pool-test.true in
     let is = rw c.pools-pool-items.ensures at c.pool-item.is in
-    found_at (λ (p : PoolFacts). p.id) c.args.map.now.map.pools c.loop-pool.pool-index c.pool-item.result c.holds_together.ensures.pools_rise inside is
+    found_at (λ (p : PoolFacts). p.id) c.args.map.now.map.pools c.loop-pool.pool-index c.pool-item.result c.holds_together.ensures.pools.rise inside is

@@ -16,7 +16,7 @@ new_table-requires-clause-there c =
     let items = c.pools-pool-items.ensures ∙ source_pools u.before.now.map u.source.now.map u.change.now u.is_after c.holds.ensures.is_source in
     let inside = rw items at c.loop-pool-test.true in
     let is = rw items at c.pool-item.is in
-    found_at (λ (p : PoolFacts). p.id) m.pools c.loop-pool.pool-index c.pool-item.result c.holds.ensures.leads.holds_after.pools_rise inside is
+    found_at (λ (p : PoolFacts). p.id) m.pools c.loop-pool.pool-index c.pool-item.result c.holds.ensures.leads.holds_after.pools.rise inside is
 
 pub loop-pool-preserved : goal.loop-pool-preserved
 loop-pool-preserved c =
@@ -55,7 +55,7 @@ returns-clause-lead c =
     let e : c.loop-pool.pool-index ≡ length m.pools = omega (arith, past, end) in
     let made = make_ends c.args.self.now.pools m c.loop-pool.pools.items c.loop-pool.kept.items c.holds.ensures.leads.holds_after (rw e at c.loop-pool.invariant.made) in
     record {
-      fits = record { pools = made.fits; few_pools = omega (arith, made.long, c.holds.ensures.leads.holds_after.few_pools) };
+      fits = record { pools = made.fits; few_pools = omega (arith, made.long, c.holds.ensures.leads.holds_after.pools.few) };
       tables = made.tables;
     }
 
