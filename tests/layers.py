@@ -1,4 +1,5 @@
-"""How the modules of tools/rekhuso stand on one another, and what their names and values are."""
+"""How the modules of tools/rekhuso and the crates stand on one another, as docs/DESIGN.md draws it, and what the names and
+values of the modules are."""
 
 from __future__ import annotations
 
@@ -10,14 +11,20 @@ import importlib
 import inspect
 import pathlib
 import pickle
+import re
 import sys
 import unittest
 from collections import defaultdict
 from collections.abc import Iterator
 
 from tests.cases import TOP
+from tests.pages import text
 
 TOOLS = TOP / "tools"
+sys.path.append(str(TOOLS))
+
+import layers as drawing  # noqa: E402
+
 PACKAGE = TOOLS / "rekhuso"
 # Each sub-package stands on those before it, and all of them on the modules beside them.
 LAYERS = ("program", "cluster", "plans", "output", "commands")
@@ -66,6 +73,18 @@ class Layers(unittest.TestCase):
         """No module takes a name from a layer above its own."""
         upward = [(str(file), name) for file, other, name in imports() if layer_of(other) > layer_of(file)]
         self.assertEqual(upward, [])
+
+    def test_picture(self) -> None:
+        """The picture of docs/DESIGN.md is that of crates.txt and of the imports of the tools"""
+        self.assertIn(f"\n\n{drawing.picture(TOP)}\n", text("docs", "DESIGN.md"), "tools/layers.py draws it anew")
+
+    def test_table(self) -> None:
+        """What the table of docs/DESIGN.md names for a crate is among what crates.txt has for it"""
+        below = drawing.crates(TOP)
+        rows = re.findall(r"^\| `(\w+)` \|[^|]*\|([^|]*)\|", text("docs", "DESIGN.md"), re.MULTILINE)
+        named = {name: set(re.findall(r"`(\w+)`", cell)) & set(below) for name, cell in rows if name in below}
+        self.assertEqual(set(named), set(below))
+        self.assertEqual({name: on - below[name] for name, on in named.items() if on - below[name]}, {})
 
     def test_circles(self) -> None:
         """No modules take names from one another in a circle, also not where a function brings them in."""
