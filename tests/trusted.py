@@ -11,6 +11,7 @@ from tests.pages import part_of, text
 
 sys.path.append(str(TOP / "tools"))
 
+import silent  # noqa: E402
 import trust  # noqa: E402
 
 PAGE = TOP / "bench" / "results" / "trust.md"
@@ -78,6 +79,21 @@ class Trusted(Case):
         missing = {place for place in places if place not in said and f"`{place[1:].split('/')[0]}`" not in said}
         self.assertGreater(len(places), 4)
         self.assertEqual(missing, set())
+
+    def test_functions_without_a_clause(self) -> None:
+        """The functions without `ensures` that the page has are those of the sources, each with what holds it"""
+        said = part_of(TOP / "docs" / "PROVED.md", "Functions without a clause")
+        named: dict[str, list[str]] = {}
+        crate = ""
+        for first, names, by in re.findall(r"^\|([^|\n]*)\| (`[^|\n]*) \| ([^|\n]+) \|$", said, re.MULTILINE):
+            crate = first.strip(" `") or crate
+            named.setdefault(crate, []).extend(re.findall(r"`([\w:]+)`", names))
+            for path in re.findall(r"`((?:tests|bench)/[\w/.]+)`", by):
+                self.assertTrue((TOP / path).is_file(), path)
+        there = silent.silent(TOP)
+        self.assertEqual(
+            {name: sorted(own) for name, own in named.items()}, {name: sorted(own) for name, own in there.items()}
+        )
 
     def test_libraries(self) -> None:
         """Each library of the kit that crates.txt names is one of those that are named as taken, or a part of one"""
