@@ -1,5 +1,6 @@
 -- What the texts of a monitor's journal stand for.
-use Rattle.std.proofs.Common.{◌≡◌, ◌≢◌, ◌∙◌, ◌⊎◌, inl, inr, ℕ, zero, suc, ◌+◌, ◌-◌, ◌^◌, ◌<◌, ◌==◌, ◌&&◌, ◌++◌, Bool, true, List, [], ◌∷◌, map, drop, Option, Some, None, if◌then◌else◌, refl, sym, ap, subst, arith}
+use Rattle.std.proofs.Common.{◌≡◌, ◌≢◌, ◌∙◌, ◌⊎◌, inl, inr, ℕ, zero, suc, ◌+◌, ◌-◌, ◌^◌, ◌<◌, ◌==◌, ◌&&◌, ◌++◌, Bool, true, List, [], ◌∷◌, map, drop, length, Option, Some, None, Vec, Global, if◌then◌else◌, refl, sym, ap, subst, arith, length-append}
+use denote.RawPtr.{null_ptr}
 use Rattle.std.specs.List.{All, AllZip, Contains}
 use Rattle.std.proofs.lemmas.Bool.Decides.{nat_tests}
 use Rattle.std.proofs.lemmas.List.{map-append}
@@ -23,10 +24,10 @@ use Rattle.keeping.specs.Journals.{Journal}
 use Rattle.journalstore.specs.Texts.{Entry, Texts}
 use Rattle.mapstore.specs.declared.error.OpenError.{OpenError}
 use Rattle.mapstore.specs.declared.error.OpenError.TheVariants.{Store, Journal as NoJournal, NoProfile, LateEpoch}
-use Rattle.mapstore.specs.JournalTexts.{change_text, row_text, step_entry, journal_texts, with_steps}
+use Rattle.mapstore.specs.JournalTexts.{word_of, change_text, row_text, step_entry, journal_texts, with_steps}
 use Rattle.mapstore.specs.OneJournal.{stands_behind}
 use Rattle.mapstore.specs.Openings.{IsRow, IsWordless, IsMapOf, IsUnopened}
-use Rattle.mapstore_laws.specs.OpeningLaws.{IsOfMonitor, MayRefuse, IsOpenedBack, with_later}
+use Rattle.mapstore_laws.specs.OpeningLaws.{IsOfMonitor, AreShort, MayRefuse, IsOpenedBack, with_later}
 
 -- ---- one row
 
@@ -62,6 +63,16 @@ module _ (step : Step) (row : Row) (back : IsStockText step) (word : IsWord step
       let tests : (step.epoch - 1 == m.epoch && row.epoch == m.epoch + 1) ≡ true = grind (arith, nat_tests, next, is.epoch) in
       rw tests lawful
 
+  -- so it makes the incremental of a map that does not
+  does_make : (m : ClusterMap) → step.epoch ≡ m.epoch + 1 → change_fault m (as_stock step).change ≡ None → MakesStep Stock m row (as_stock step)
+  does_make m next lawful = record {
+    epoch = sym is.epoch;
+    text = ap (change_text_fault Stock) text_is ∙ own.faultless;
+    base = step.epoch - 1;
+    states = subst (λ text. StatesChange Stock text (step.epoch - 1, (as_stock step).change)) (sym text_is) own.states;
+    sound = never_wrong m next lawful;
+  }
+
   not_refused : (m : ClusterMap) (e : Refusal) → step.epoch ≡ m.epoch + 1 → change_fault m (as_stock step).change ≡ None → IsRefused Stock m row e → e ≡ OutOfMemory
   not_refused m e next lawful (inl short) = short
   not_refused m e next lawful (inr (inl wrong)) =
@@ -87,6 +98,18 @@ make_them m (s ∷ ss) (r ∷ rows) (x ∷ xs) back words are stand =
     let rest = make_them (apply m x) ss rows xs (All-tail IsStockText s ss back) (All-tail IsWord s ss words) are.1 stand.1 in
     λ i. here i ∷ rest i
 
+-- and they do make them
+stand_for : (m : ClusterMap) (steps : List Step) (rows : List Row) → All IsStockText steps → All IsWord steps → IsLawful m (map as_stock steps) → AllZip IsRow (map step_entry steps) rows
+    → StandFor Stock m rows (map as_stock steps)
+unfolding StandFor IsLawful
+stand_for m [] [] back words lawful are = tt
+stand_for m [] (r ∷ rows) back words lawful are = absurd are
+stand_for m (s ∷ ss) [] back words lawful are = absurd are
+stand_for m (s ∷ ss) (r ∷ rows) back words lawful are = (
+  does_make s r (All-head IsStockText s ss back) (All-head IsWord s ss words) are.0 m lawful.0 lawful.1,
+  stand_for (apply m (as_stock s)) ss rows (All-tail IsStockText s ss back) (All-tail IsWord s ss words) lawful.2 are.1,
+)
+
 -- and none of them is refused
 none_broken : (m : ClusterMap) (steps : List Step) (whole : List Row) (row : Row) (others : List Row) (made : List Step) (e : Refusal) → All IsStockText steps → All IsWord steps
     → IsLawful m (map as_stock steps) → AllZip IsRow (map step_entry steps) (whole ++ row ∷ others) → StandFor Stock m whole made → IsRefused Stock (after m made) row e → e ≡ OutOfMemory
@@ -101,6 +124,35 @@ none_broken m (s ∷ ss) (w ∷ whole) row others (x ∷ xs) e back words lawful
     let here = makes_it s w (All-head IsStockText s ss back) (All-head IsWord s ss words) are.0 m x stand.0 in
     let rest = subst (λ t. IsLawful (apply m t) (map as_stock ss)) (sym here) lawful.2 in
     none_broken (apply m x) ss whole row others xs e (All-tail IsStockText s ss back) (All-tail IsWord s ss words) rest are.1 stand.1 refused
+
+-- ---- rows of texts that memory can hold
+
+-- a text in memory
+abbrev held : (text : List ℕ) → length text < 2 ^ 63 → Vec ℕ Global
+held text short = record {
+  ptr = null_ptr;
+  len = length text;
+  cap = length text;
+  alloc = record { memory = record { seal = tt } };
+  items = text;
+  ok = (refl, omega arith);
+  small = short;
+}
+
+-- the text of a row is no longer than that of its entry
+abbrev row_at : (step : Step) → length (row_text step) < 2 ^ 63 → Row
+row_at step short = record {
+  epoch = step.epoch;
+  text = held (change_text step) (let long = length-append (word_of step.change.profile) (change_text step) in omega (arith, long, short));
+}
+
+-- rows of entries
+rows_at : (steps : List Step) → AreShort (map step_entry steps) → (rows : List Row) × AllZip IsRow (map step_entry steps) rows
+rows_at [] short = ([], tt)
+rows_at (s ∷ ss) short =
+    let here = All-head (λ (e : Entry). length e.1 < 2 ^ 63) (step_entry s) (map step_entry ss) short in
+    let (rows, are) = rows_at ss (All-tail (λ (e : Entry). length e.1 < 2 ^ 63) (step_entry s) (map step_entry ss) short) in
+    (row_at s here ∷ rows, (record { epoch = refl; profile = s.change.profile; text = refl }, are))
 
 -- each row begins with a word
 word_there : (steps : List Step) (entry : Entry) → Contains (map step_entry steps) entry → (step : Step) × (step_entry step ≡ entry)
@@ -117,6 +169,15 @@ module _ (j : Journal) (of : IsOfMonitor j) (first : IsTextOf (written j.first) 
       let begin : begins ≡ j.first = first.alone begins states in
       let them = make_them begins j.steps stands.rows made back.each of.numbers stands.are stand in
       is ∙ ap (λ xs. after begins xs) them ∙ ap (λ n. after n (map as_stock j.steps)) begin ∙ back.leads
+
+  stands_so : AreShort (journal_texts j).changes → IsMapOf (journal_texts j) (after j.first j.steps)
+  stands_so short =
+      let (rows, are) = rows_at j.steps short in
+      record {
+        rows = rows;
+        are = are;
+        stands = (j.first, first.states, map as_stock j.steps, stand_for j.first j.steps rows back.each of.numbers back.lawful are, sym back.leads);
+      }
 
   refused_by : (e : OpenError) → IsUnopened (journal_texts j) e → MayRefuse j e
   refused_by (Store e) unopened = tt
@@ -135,7 +196,7 @@ module _ (j : Journal) (of : IsOfMonitor j) (first : IsTextOf (written j.first) 
   refused_by (LateEpoch epoch) (m, stands, is, late) = (ap (λ (n : ClusterMap). n.epoch) (sym (map_is m stands)) ∙ is, late)
 
   pub opened_back : IsOpenedBack (journal_texts j) j
-  opened_back = record { map = map_is; refused = refused_by }
+  opened_back = record { stands = stands_so; map = map_is; refused = refused_by }
 
 -- the texts of a journal with those of later runs behind them are those of the whole
 pub later_texts : (j : Journal) (later : List Step) → journal_texts (with_later j later) ≡ with_steps (journal_texts j) later

@@ -1,5 +1,5 @@
 -- What a store is opened with that held the journal of a monitor, and behind it what a crash leaves of later runs.
-use Rattle.std.specs.Prelude.{◌≡◌, ◌<◌, ◌^◌, ◌++◌, ⊤, ℕ, List}
+use Rattle.std.specs.Prelude.{◌≡◌, ◌<◌, ◌^◌, ◌++◌, ⊤, ℕ, List, length}
 use Rattle.std.specs.List.{All}
 use Rattle.refusal.specs.declared.refused.Refusal.TheVariants.{Memory as OutOfMemory}
 use Rattle.mapparts.specs.Limits.{max_first_epoch}
@@ -12,7 +12,7 @@ use Rattle.map_laws.specs.Laws.{IsTextEpoch, AreChanges}
 use Rattle.keeping.specs.Journals.{Journal, HasAll}
 use Rattle.mapstore.specs.declared.error.OpenError.{OpenError}
 use Rattle.mapstore.specs.declared.error.OpenError.TheVariants.{Store, Journal as NoJournal, NoProfile, LateEpoch}
-use Rattle.journalstore.specs.Texts.{Texts}
+use Rattle.journalstore.specs.Texts.{Entry, Texts}
 use Rattle.mapstore.specs.JournalTexts.{journal_texts, with_steps}
 use Rattle.mapstore.specs.Openings.{IsMapOf, IsUnopened}
 
@@ -36,8 +36,13 @@ MayRefuse j (NoJournal fault) = IsOfMemory fault
 MayRefuse j (NoProfile epoch) = ⊥
 MayRefuse j (LateEpoch epoch) = ((after j.first j.steps).epoch ≡ epoch) × (max_first_epoch < epoch)
 
+-- memory can hold the text of each entry
+abbrev pub AreShort : List Entry → Type 0
+AreShort entries = All (λ (e : Entry). length e.1 < 2 ^ 63) entries
+
 -- texts stand for the map after the journal and for no other, and are refused for no other reason
 pub record IsOpenedBack (t : Texts) (j : Journal) : Type 0 where
+  pub stands : AreShort t.changes → IsMapOf t (after j.first j.steps)
   pub map : (m : ClusterMap) → IsMapOf t m → m ≡ after j.first j.steps
   pub refused : (e : OpenError) → IsUnopened t e → MayRefuse j e
 
