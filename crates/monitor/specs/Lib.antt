@@ -8,3 +8,4 @@ pub mod Sharing
 pub mod Questions
 pub mod Making
 pub mod Ends
+pub mod News

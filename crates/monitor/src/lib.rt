@@ -7,6 +7,7 @@
 //! - `calls`: what a member commits
 //! - `turns`, `locked`: a member's turns at the lock, and what lies under it
 //! - `shared`, `look`: holds of the lock that members share
+//! - `news`: what one member has seen, told to another
 //! - `ended`: what a monitor ends with
 //! - `follower`: who reads the row of sealed epochs without the lock
 #![tactic(auto)]
@@ -19,6 +20,7 @@ mod locked;
 mod look;
 mod member;
 mod monitor;
+mod news;
 mod open;
 mod question;
 mod shared;
@@ -32,6 +34,7 @@ pub use keeping::{Keeps, Nothing};
 pub use look::Look;
 pub use member::Member;
 pub use monitor::Monitor;
+pub use news::News;
 pub use open::Limits;
 pub use question::{Answer, Question};
 pub use shared::Shared;

@@ -67,6 +67,8 @@ impl<W: io::Write> Out<W> {
     pub fn new(alloc: Global, to: W) -> Out<W>
         ensures failed { result.failed ≡ false }
         ensures none { result.gone.bytes ++ result.kept.bytes.items ≡ [] }
+        ensures writer { result.to ≡ to }
+        ensures short { result.short ≡ false }
     {
         let first = Snapshot::of(&to);
         Out {
@@ -90,8 +92,9 @@ impl<W: io::Write> Out<W> {
 }
 
 impl<W: io::Write> Sink for Out<W> {
-    ghost use Rattle.std.specs.Prelude.{◌==◌, ◌++◌, nat_le, not, false, vec_len};
-    ghost use Rattle.serving.specs.Outs.{full_out};
+    ghost use Rattle.std.specs.Prelude.{◌≡◌, ◌++◌, true, false, OnOk, OnErr, is_err, vec_len};
+    ghost use Rattle.session.specs.Sinks.{is_refused, PutsFirst};
+    ghost use Rattle.serving.specs.Outs.{are_there, are_many};
 
     ghost written = { λ out. out.gone.bytes ++ out.kept.bytes.items };
 
@@ -99,11 +102,20 @@ impl<W: io::Write> Sink for Out<W> {
 
     ghost waits = { λ _. false };
 
-    ghost holds_back = { λ out. not (vec_len out.kept.bytes == 0) };
+    ghost holds_back = { λ out. are_there (vec_len out.kept.bytes) };
 
-    ghost is_filled = { λ out. nat_le full_out (vec_len out.kept.bytes) };
+    ghost is_filled = { λ out. are_many (vec_len out.kept.bytes) };
 
-    fn write(&mut self, bytes: &[u8]) -> Result<usize, WriteFailed> {
+    /// Keeps the bytes. The writer is not touched, so nobody is waited for.
+    fn write(&mut self, bytes: &[u8]) -> Result<usize, WriteFailed>
+        requires { self.old.failed ≡ false }
+        ensures puts { PutsFirst (self.old.gone.bytes ++ self.old.kept.bytes.items) bytes.now
+            (self.new.gone.bytes ++ self.new.kept.bytes.items) result }
+        ensures fails { self.new.failed ≡ is_refused bytes.now result }
+        ensures waits { self.new.to ≡ self.old.to }
+        ensures first { self.new.first ≡ self.old.first }
+        ensures short { OnErr result (self.new.short ≡ true) }
+    {
         if self.kept.bytes.extend_from_slice(bytes).is_err() {
             self.failed = true;
             self.short = true;
@@ -112,15 +124,28 @@ impl<W: io::Write> Sink for Out<W> {
         Ok(bytes.len())
     }
 
-    fn failed(&self) -> bool {
+    fn failed(&self) -> bool
+        ensures { result ≡ self.now.failed }
+    {
         self.failed
     }
 
-    fn may_wait(&self) -> bool {
+    fn may_wait(&self) -> bool
+        ensures { result ≡ false }
+    {
         false
     }
 
-    fn flush(&mut self) -> Result<(), WriteFailed> {
+    /// Writes what is kept, until all of it is out at the writer.
+    fn flush(&mut self) -> Result<(), WriteFailed>
+        requires { self.old.failed ≡ false }
+        ensures same { self.new.gone.bytes ++ self.new.kept.bytes.items
+            ≡ self.old.gone.bytes ++ self.old.kept.bytes.items }
+        ensures out { OnOk result (vec_len self.new.kept.bytes ≡ 0) }
+        ensures fails { self.new.failed ≡ is_err result }
+        ensures first { self.new.first ≡ self.old.first }
+        ensures short { self.new.short ≡ self.old.short }
+    {
         if self.kept.bytes.is_empty() {
             return Ok(());
         }
@@ -133,7 +158,10 @@ impl<W: io::Write> Sink for Out<W> {
         Ok(())
     }
 
-    fn is_full(&self) -> bool {
+    fn is_full(&self) -> bool
+        ensures full { result ≡ are_many (vec_len self.now.kept.bytes) }
+        ensures held { result ≡ true → are_there (vec_len self.now.kept.bytes) ≡ true }
+    {
         FULL <= self.kept.bytes.len()
     }
 }

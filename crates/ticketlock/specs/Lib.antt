@@ -8,3 +8,4 @@ pub mod Callers
 pub mod Errors
 pub mod Lending
 pub mod Traces
+pub mod Contents

@@ -1,9 +1,10 @@
 //! What shares the lock.
-ghost use Rattle.std.specs.Prelude.{◌≡◌, ◌≤◌, IsSome, IsSomeAnd};
+ghost use Rattle.std.specs.Prelude.{◌≡◌, ◌≤◌, IsSomeAnd, true};
+ghost use Rattle.ticketlock.specs.Contents.{is_here};
 ghost use Rattle.ticketlock.specs.Standing.{IsAt};
 
 use crate::fact::Fact;
-use crate::slots::{Hold, read_no_more};
+use crate::slots::{Content, Hold, read_no_more};
 use crate::table::Words;
 use crate::tokens::{Seat, TurnRead};
 
@@ -13,7 +14,7 @@ pub struct ReadGuard<'a, T: Fact> {
     pub(crate) turn: TurnRead,
     pub(crate) claim: Hold<'a, T>,
     pub ghost reads: { claim.right ≡ 1 },
-    pub ghost filled: { ∥ IsSomeAnd claim.value (λ slot. IsSome slot) ∥₁ },
+    pub ghost filled: { ∥ IsSomeAnd claim.value (λ content. is_here content ≡ true) ∥₁ },
     pub ghost own: { IsAt words.now turn.place },
 }
 
@@ -31,8 +32,8 @@ impl<'a, T: Fact + Drop> ReadGuard<'a, T> {
         ensures same { Shows self.now result.now }
     {
         match self.claim.get() {
-            Some(kept) => &kept.value,
-            None => unreachable!(),
+            Content::Here(value) => value,
+            Content::Away(_) => unreachable!(),
         }
     }
 
