@@ -71,6 +71,15 @@ class Trusted(Case):
         self.assertGreater(len(taken), 4)
         self.assertEqual([word for word in taken if word not in trust.WORDS or f"`{word}=" not in said], [])
 
+    def test_functions_in_c(self) -> None:
+        """The page of promises has as many C functions as the other names"""
+        found = re.findall(
+            r"^\| \w+ \| (\d+) \| \d+ \| (.*) \|$", part_of(PAGE, "C functions below osdmapd"), re.MULTILINE
+        )
+        count = sum(int(number) for number, _ in found)
+        self.assertEqual(sum(len(re.findall(r"\w+::[\w:]+", names)) for _, names in found), count)
+        self.assertIn(f"[{count} of them below `osdmapd`]", part_of(TOP / "docs" / "PROVED.md", "What is trusted"))
+
     def test_proofs_by_hand(self) -> None:
         """Each place of a whole proof by hand is named"""
         said = part_of(TOP / "docs" / "PROVED.md", "What is trusted")

@@ -47,9 +47,12 @@ WORDS = {
     "target": "the machine that the program is built for, which nothing judges",
     "cpu": "its processor, which nothing judges",
     "axioms": "C functions whose contracts are assumed",
+    "threads": "C functions by which threads are started, joined and put to sleep",
+    "main": "what the program may do: start threads, and wait, so that it need not end",
+    "may-wait": "functions that may wait for another thread, and need not return",
 }
 # Words whose value is a number of the crate, so that no two are alike.
-COUNTED = {"axioms"}
+COUNTED = {"axioms", "may-wait"}
 HEAD = re.compile(r"^(?:(?:abbrev|unfoldable|pub|record|data|deriving|open|infix\w*) +)*([^\s:({]+)")
 NAME = re.compile(r"[^\W\d][\w'?!]*(?:\.TheVariants)?")
 
@@ -227,9 +230,10 @@ def libraries_told(verdicts: list[Verdict]) -> Iterator[str]:
 
 def functions_told(own: Verdict) -> Iterator[str]:
     """The C functions that a program reaches."""
+    yield from ("| library | reached | declared | by name |", "|---|--:|--:|---|")
     for library, (count, declared, names) in own.functions.items():
-        listed = f": {', '.join(f'`{name}`' for name in names)}" if names else ""
-        yield f"- `{library}`: {count} of {declared}{listed}" + (" and others" if 0 < len(names) < count else "")
+        more = ["and others"] if 0 < len(names) < count else []
+        yield f"| {library} | {count} | {declared} | {', '.join(names + more)} |"
 
 
 def main() -> None:
@@ -241,10 +245,8 @@ def main() -> None:
     verdicts = {own.crate: own for own in verdicts_in(log)}
     programs = [own for own in verdicts.values() if own.functions]
     print("# What the proofs stand on\n")
-    print(
-        f"By hand, on {datetime.date.today()}, by `tools/trust.py` from a log of checks and from the sources. `make bench` does"
-    )
-    print("not make it anew.\n")
+    print(f"By hand, on {datetime.date.today()}, by `tools/trust.py` from a log of checks and from the sources.")
+    print("`make bench` does not make it anew. Crates that the log does not have are not told of.\n")
     print("## Definitions that a reader must believe\n")
     print(*definitions_told(root), sep="\n")
     print("\n## Python between a cluster and the program\n")
