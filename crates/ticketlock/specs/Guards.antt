@@ -1,7 +1,6 @@
 -- What guards know of the value.
 use Rattle.std.specs.Prelude.{◌≡◌, Some}
 use Rattle.ticketlock.specs.declared.read_guard.ReadGuard.{ReadGuard}
-use Rattle.ticketlock.specs.declared.slots.Content.TheVariants.{Here}
 use Rattle.ticketlock.specs.declared.write_guard.WriteGuard.{WriteGuard}
 
 module _ {T : Type 0} where
@@ -14,4 +13,4 @@ module _ {T : Type 0} where
 
   -- the guard lends this value
   abbrev pub Shows : ReadGuard T → T → Type 0
-  Shows guard value = guard.claim.value ≡ Some (Here value)
+  Shows guard value = guard.claim.value ≡ Some (Some (record { value = value }))

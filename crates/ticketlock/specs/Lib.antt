@@ -8,4 +8,3 @@ pub mod Callers
 pub mod Errors
 pub mod Lending
 pub mod Traces
-pub mod Contents

@@ -1,10 +1,9 @@
 //! What shares the lock.
-ghost use Rattle.std.specs.Prelude.{◌≡◌, ◌≤◌, IsSomeAnd, true};
-ghost use Rattle.ticketlock.specs.Contents.{is_here};
+ghost use Rattle.std.specs.Prelude.{◌≡◌, ◌≤◌, IsSome, IsSomeAnd};
 ghost use Rattle.ticketlock.specs.Standing.{IsAt};
 
 use crate::fact::Fact;
-use crate::slots::{Content, Hold, read_no_more};
+use crate::slots::{Hold, read_no_more};
 use crate::table::Words;
 use crate::tokens::{Seat, TurnRead};
 
@@ -14,7 +13,7 @@ pub struct ReadGuard<'a, T: Fact> {
     pub(crate) turn: TurnRead,
     pub(crate) claim: Hold<'a, T>,
     pub ghost reads: { claim.right ≡ 1 },
-    pub ghost filled: { ∥ IsSomeAnd claim.value (λ content. is_here content ≡ true) ∥₁ },
+    pub ghost filled: { ∥ IsSomeAnd claim.value (λ slot. IsSome slot) ∥₁ },
     pub ghost own: { IsAt words.now turn.place },
 }
 
@@ -32,8 +31,8 @@ impl<'a, T: Fact + Drop> ReadGuard<'a, T> {
         ensures same { Shows self.now result.now }
     {
         match self.claim.get() {
-            Content::Here(value) => value,
-            Content::Away(_) => unreachable!(),
+            Some(kept) => &kept.value,
+            None => unreachable!(),
         }
     }
 

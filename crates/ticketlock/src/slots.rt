@@ -1,32 +1,28 @@
 //! The value, in one of two slots. Who writes takes it out of the one, and holds the right to put it into the other.
-ghost use Rattle.std.specs.Prelude.{◌≡◌, IfSome, IsSomeAnd, true};
-ghost use Rattle.ticketlock.specs.Contents.{IsContent, is_here};
+ghost use Rattle.std.specs.Prelude.{◌≡◌, IfSome, IsSome, IsSomeAnd};
+ghost use Rattle.ticketlock.specs.declared.slots.Kept.{Kept};
 
 use crate::fact::Fact;
 use counted_slot::{Claim, Counted, FREE, Fits, MOST_READERS, ONE_READER, PRESENT, TAKEN};
 use std::snapshot::Snapshot;
 
-/// What a slot has.
+/// A value in its slot.
 #[derive(Drop)]
-pub(crate) enum Content<T> {
-    /// The value.
-    Here(T),
-    /// No value. Only who knows which value the slots were made with empties one: who holds the right to put a value
-    /// back does not, so that he can put nothing else.
-    Away(Snapshot<Snapshot<T>>),
+pub(crate) struct Kept<T> {
+    pub(crate) value: T,
 }
 
-impl<T: Fact> Fits for Content<T> {
+impl<T: Fact> Fits for Kept<T> {
     type Tag = Snapshot<T>;
 
-    ghost fits = { IsContent T.fact };
+    ghost fits = { λ first kept. T.fact first.value kept.value };
 }
 
 /// A slot, full or empty.
-pub(crate) type Slot<T> = Counted<Content<T>>;
+pub(crate) type Slot<T> = Counted<Option<Kept<T>>>;
 
 /// What was gained at a slot: to read the value there, or to put one there.
-pub(crate) type Hold<'a, T> = Claim<'a, Content<T>>;
+pub(crate) type Hold<'a, T> = Claim<'a, Option<Kept<T>>>;
 
 /// That a caller is done with the slots. Only this module makes one, and the steps that leave the lock ask for it: so
 /// the value is back before another may enter.
@@ -35,44 +31,17 @@ pub(crate) struct Back {
     made: (),
 }
 
-/// Two slots, of which one has the value while nobody writes, and the value that they were made with, which only proofs
-/// read.
+/// Two slots, of which one has the value while nobody writes.
 #[derive(Drop)]
 pub(crate) struct Slots<T: Fact> {
     left: Slot<T>,
     right: Slot<T>,
-    first: Snapshot<T>,
     pub ghost same: { left ≡ right },
-    pub ghost made: { first ≡ left },
 }
 
-impl<T> Content<T> {
-    // Whether it is the value.
-    fn is_here(&self) -> bool
-        ensures { result ≡ is_here self.now }
-    {
-        match self {
-            Content::Here(_) => true,
-            Content::Away(_) => false,
-        }
-    }
-}
-
-// What empties a slot.
-fn away<T: Fact>(first: &Snapshot<T>) -> Content<T>
-    ensures { IsContent T.fact first.now result }
-{
-    Content::Away(Snapshot::of(first))
-}
-
-// Takes the value out of `full`, if it is there and no one else is at the two slots, which were made with the first one.
-fn take_from<'a, T: Fact + Drop>(
-    full: &Slot<T>,
-    empty: &'a Slot<T>,
-    first: &Snapshot<T>,
-) -> Option<(T, Hold<'a, T>)>
-    requires same { full.now ≡ empty.now }
-    requires first { first.now ≡ empty.now }
+// Takes the value out of `full`, if it is there and no one else is at the two slots.
+fn take_from<'a, T: Fact + Drop>(full: &Slot<T>, empty: &'a Slot<T>) -> Option<(T, Hold<'a, T>)>
+    requires { full.now ≡ empty.now }
     ensures { IfSome result (λ r. T.fact empty.now.value r.0 × (r.1.right ≡ 2) × (r.1.tag ≡ empty.now)) }
 {
     let seen = full.load();
@@ -87,13 +56,16 @@ fn take_from<'a, T: Fact + Drop>(
     let (found, claim) = full.turn(seen, TAKEN);
     if found != seen {
         claim.done();
-        home.put(away(first), FREE);
+        home.put(None, FREE);
         return None;
     }
-    match claim.put(away(first), FREE) {
-        Content::Here(value) => Some((value, home)),
-        Content::Away(_) => {
-            home.put(away(first), FREE);
+    match claim.put(None, FREE) {
+        Some(kept) => {
+            let Kept { value } = kept;
+            Some((value, home))
+        }
+        None => {
+            home.put(None, FREE);
             None
         }
     }
@@ -102,7 +74,7 @@ fn take_from<'a, T: Fact + Drop>(
 // Comes to read the value in `full`, if it is there and no one writes.
 fn read_from<T: Fact>(full: &Slot<T>) -> Option<Hold<'_, T>>
     ensures own { IfSome result (λ r. (r.right ≡ 1) × (r.tag ≡ full.now)) }
-    ensures full { IfSome result (λ r. ∥ IsSomeAnd r.value (λ content. is_here content ≡ true) ∥₁) }
+    ensures full { IfSome result (λ r. ∥ IsSomeAnd r.value (λ slot. IsSome slot) ∥₁) }
 {
     let seen = full.load();
     if seen % ONE_READER != PRESENT || seen / ONE_READER >= MOST_READERS {
@@ -113,7 +85,7 @@ fn read_from<T: Fact>(full: &Slot<T>) -> Option<Hold<'_, T>>
         claim.done();
         return None;
     }
-    if !claim.get().is_here() {
+    if claim.get().is_none() {
         claim.leave();
         return None;
     }
@@ -127,9 +99,9 @@ impl<T: Fact + Drop> Slots<T> {
         ensures { result.left.value ≡ value }
     {
         let first = Snapshot::of(&value);
-        let right = Counted::new(away(&first), &first);
-        let left = Counted::new(Content::Here(value), &first);
-        Slots { left, right, first }
+        let right = Counted::new(None, &first);
+        let left = Counted::new(Some(Kept { value }), &first);
+        Slots { left, right }
     }
 
     /// Lets readers come to a value that has not been lent yet: a new slot lets none.
@@ -142,7 +114,7 @@ impl<T: Fact + Drop> Slots<T> {
     /// Comes to read the value.
     pub fn read(&self) -> Option<Hold<'_, T>>
         ensures own { IfSome result (λ r. (r.right ≡ 1) × (r.tag ≡ self.now.left)) }
-        ensures full { IfSome result (λ r. ∥ IsSomeAnd r.value (λ content. is_here content ≡ true) ∥₁) }
+        ensures full { IfSome result (λ r. ∥ IsSomeAnd r.value (λ slot. IsSome slot) ∥₁) }
     {
         match read_from(&self.left) {
             Some(claim) => Some(claim),
@@ -154,33 +126,31 @@ impl<T: Fact + Drop> Slots<T> {
     pub fn into_value(self) -> Option<T>
         ensures { IfSome result (T.fact self.left.value) }
     {
-        let Slots { left, right, .. } = self;
-        if let Content::Here(value) = left.into_inner() {
-            return Some(value);
-        }
-        match right.into_inner() {
-            Content::Here(value) => Some(value),
-            Content::Away(_) => None,
-        }
+        let Slots { left, right } = self;
+        let kept = match left.into_inner() {
+            Some(kept) => kept,
+            None => right.into_inner()?,
+        };
+        Some(kept.value)
     }
 
     /// Takes the value out, and gives with it the right to put one back.
     pub fn take(&self) -> Option<(T, Hold<'_, T>)>
         ensures { IfSome result (λ r. T.fact self.now.left.value r.0 × (r.1.right ≡ 2) × (r.1.tag ≡ self.now.left)) }
     {
-        match take_from(&self.left, &self.right, &self.first) {
+        match take_from(&self.left, &self.right) {
             Some(taken) => Some(taken),
-            None => take_from(&self.right, &self.left, &self.first),
+            None => take_from(&self.right, &self.left),
         }
     }
 }
 
-/// Puts a value back, which cannot fail. There is nothing else that it could put: see [`Content::Away`].
+/// Puts a value back, which cannot fail.
 pub(crate) fn put_back<T: Fact + Drop>(home: Hold<'_, T>, value: T) -> Back
     requires right { home.right ≡ 2 }
     requires fact { T.fact home.tag.value value }
 {
-    home.put(Content::Here(value), PRESENT);
+    home.put(Some(Kept { value }), PRESENT);
     Back { made: () }
 }
 
