@@ -7,8 +7,10 @@ import random
 from typing import Any
 
 from rekhuso.cluster.evenness import Spread
+from rekhuso.plans.at_rest import AtRest
 from rekhuso.plans.cycles import without_cycles
 from rekhuso.plans.gains import gains
+from rekhuso.plans.loads import STEP_PARTS
 from rekhuso.plans.steps import PlanStep
 
 from tests.clusters import STOCK, Json, commands, copied
@@ -96,6 +98,27 @@ class PlansEnd(StockCase):
                     self.assertTrue(output or "nothing to gain" in error)
                     if "a plan over this one has" not in error:
                         self.assertEqual(second, [])
+
+    def test_pools_at_rest(self) -> None:
+        """Where it is known that a pool has no move there is none, whatever ways are open between OSDs that did not
+        differ enough when its plan ended; and where OSDs are as they were it is known.
+        """
+        rng, osds, apart, known = random.Random(5), range(8), 6, 0
+        for _ in range(3000):
+            rest, counts = AtRest(apart * STEP_PARTS), {osd: rng.randint(0, 2) for osd in osds}
+            was, now = ({osd: STEP_PARTS * rng.randint(-6, 6) for osd in osds} for _ in range(2))
+            near = {osd: own + STEP_PARTS * rng.randint(-1, 1) * rng.randint(0, 1) for osd, own in was.items()}
+            open_ways = [(one, other) for one in osds for other in osds if was[one] - was[other] <= rest.apart]
+            rest.put(1, was)
+            self.assertFalse(rest.has_move(1, was, counts))
+            for above in (now, near):
+                moves = [way for way in open_ways if counts[way[0]] and above[way[0]] - above[way[1]] > rest.apart]
+                is_known = not rest.has_move(1, above, counts)
+                self.assertFalse(is_known and moves)
+                known += is_known
+            rest.drop([1])
+            self.assertEqual(rest.has_move(1, {0: 9 * STEP_PARTS, 1: 0}, {0: 1}), True)
+        self.assertGreater(known, 1000)
 
     def test_moves_that_cancel(self) -> None:
         """A cycle of moves of one pool goes, and no other move: of as many bytes, where these are known."""

@@ -3,6 +3,8 @@
 from __future__ import annotations
 
 from collections import Counter
+from collections.abc import Collection
+from copy import copy
 from itertools import chain
 
 from ..program.answers import Up
@@ -31,7 +33,21 @@ class Shares:
         self.shares_by = {pool["id"]: self.shares_in(pool) for pool in value["pools"]}
         self.reach_by = {pool["id"]: self.reach_in(pool) for pool in value["pools"]}
         self.wanted: dict[int, float] = dict(sums_by_osd(self.shares_by))
-        self.reached: dict[int, float] = dict(sums_by_osd(self.reach_by))
+        is_reached = all(own is self.reach_by[number] for number, own in self.shares_by.items())
+        self.reached: dict[int, float] = self.wanted if is_reached else dict(sums_by_osd(self.reach_by))
+
+    def after(self, value: Map, ups: dict[str, Up], moved: Collection[int]) -> Shares:
+        """Those of a map with other exceptions alone, by which groups of some pools have other sets."""
+        found = copy(self)
+        found.value, found.ups, pools = value, ups, [pool for pool in value["pools"] if pool["id"] in moved]
+        found.sets = {**self.sets, **{pool["id"]: [ups[group] for group in groups_in(pool)] for pool in pools}}
+        found.counts_in = {**self.counts_in, **{pool["id"]: found.counted(pool) for pool in pools}}
+        found.counts = Counter(sums_by_osd(found.counts_in))
+        found.shares_by = {**self.shares_by, **{pool["id"]: found.shares_in(pool) for pool in pools}}
+        found.reach_by = {**self.reach_by, **{pool["id"]: found.reach_in(pool) for pool in pools}}
+        if found.shares_by != self.shares_by or found.reach_by != self.reach_by:
+            found.wanted, found.reached = dict(sums_by_osd(found.shares_by)), dict(sums_by_osd(found.reach_by))
+        return found
 
     def ups_in(self, pool: Pool) -> list[Up]:
         """The up sets of a pool's groups."""

@@ -11,6 +11,7 @@ from typing import Any
 
 from ..cluster.disks import Disk
 from ..cluster.pool_data import Data
+from ..program.answers import Up
 from ..program.maps import Change, Exceptions, Map, altered, entries_of, group_key
 from .rounds import Live
 from .step_order import has_after
@@ -41,13 +42,23 @@ def bring(live: Live, value: Map) -> None:
     live.session.change(None, **change)
 
 
+def up_at(places: list[int | None]) -> Up:
+    """An up set of these places, at an epoch that nobody asks for."""
+    return Up(0, places, next((osd for osd in places if osd is not None), None))
+
+
 def after(live: Live, steps: list[PlanStep]) -> Live:
-    """A map with its session once the commands of those of some steps are given that are for its groups."""
+    """A map with its session once the commands of those of some steps are given that are for its groups, which have
+    the sets then that the program has told of the steps.
+    """
     own = [step for step in steps if step.pool in live.pools]
     change = change_by([line for step in own for line in step.commands])
     value = altered(live.value, **excepted(live.value, change))
     bring(live, value)
-    found = Live(value, excepted(live.kept, change), live.names, live.judge, live.session)
+    moved = [step for step in own if step.was != step.now]
+    ups = {**live.before.ups, **{step.group: up_at(step.now) for step in moved}}
+    before = live.before.after(value, ups, {step.pool for step in moved})
+    found = Live(value, excepted(live.kept, change), live.names, live.judge, live.session, before)
     found.is_by_weight, found.alone = live.is_by_weight, live.alone
     return found
 

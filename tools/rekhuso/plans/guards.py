@@ -103,6 +103,8 @@ def is_guard(line: str) -> bool:
     """Whether a line is of the exact form of a guard, and so does nothing but ask."""
     if line in ASKING:
         return True
+    if not line.startswith("has "):
+        return False
     try:
         words = shlex.split(line)
     except ValueError:

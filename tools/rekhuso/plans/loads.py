@@ -22,6 +22,8 @@ from ..values import SLOTS
 GROUP_PARTS, MEAN_PARTS = 1 << 64, 1 << 32
 # The program is told 256ths of a group.
 STEP_PARTS = GROUP_PARTS >> 8
+# The bits of two such steps, half of which is what a pool without data carries.
+HALF_BITS = STEP_PARTS.bit_length()
 # How many times as much as evenness by groups evenness by data counts.
 WEIGHT = 10
 
@@ -39,24 +41,28 @@ class Laid:
     offset: dict[int, int]
     closed: frozenset[int]
 
-    def deviations(self, most: int | None = None) -> dict[int, int]:
-        """How far each OSD is above its share or, negative, below it; at most so many parts, where these are given."""
+    def deviations(self) -> dict[int, int]:
+        """How far each OSD is above its share or, negative, below it."""
         found = {osd: -share for osd, share in self.shares.items()}
         for osd, groups in self.counts.items():
             if osd in found:
                 found[osd] += groups * GROUP_PARTS
-        if most is None:
-            return found
-        return {osd: -most if own < -most else most if own > most else own for osd, own in found.items()}
+        return found
 
 
 def shares_of(trees: Iterable[Mapping[int, int]], counts: Mapping[int, int]) -> dict[int, int]:
     """The shares of OSDs by their weights: each tree's groups are shared among its own OSDs."""
     found: dict[int, int] = {}
-    for weights in trees:
-        groups, total = sum(count for osd, count in counts.items() if osd in weights), sum(weights.values())
+    own = list(trees)
+    for weights, groups in zip(own, places_in(own, counts)):
+        total = sum(weights.values())
         found.update({osd: groups * weight * GROUP_PARTS // total for osd, weight in weights.items()})
     return found
+
+
+def places_in(trees: Iterable[Mapping[int, int]], counts: Mapping[int, int]) -> list[int]:
+    """How many places OSDs have, tree by tree."""
+    return [sum(count for osd, count in counts.items() if osd in weights) for weights in trees]
 
 
 def offsets(by_weight: Mapping[int, int], shares: Mapping[int, int]) -> dict[int, int]:
@@ -95,12 +101,12 @@ class Loads:
     come counts with no more than a plan leaves.
     """
 
-    def __init__(self, pools: Mapping[int, Laid], later: Iterable[int], most: int) -> None:
-        """Takes pools by their numbers, which of them are still to be planned, and the parts that a plan leaves."""
-        self.pools, self.later = pools, set(later)
+    def __init__(self, pools: Mapping[int, Laid]) -> None:
+        """Takes pools by their numbers, which all count as they lie."""
+        self.pools, self.later = pools, dict[int, dict[int, int]]()
         self.groups = {osd: 0 for pool in pools.values() for osd in pool.shares}
         self.data = dict(self.groups)
-        self.own = {number: pool.deviations(most if number in self.later else None) for number, pool in pools.items()}
+        self.own = {number: pool.deviations() for number, pool in pools.items()}
         for number, own in self.own.items():
             self.add(number, own)
 
@@ -109,7 +115,19 @@ class Loads:
         groups, data, place = self.groups, self.data, self.pools[number].place
         for osd, parts in more.items():
             groups[osd] += parts
+        for osd, parts in more.items() if place else ():
             data[osd] += parts * place
+
+    def put_off(self, later: Iterable[int], most: int) -> None:
+        """The plans of some pools, all of which count as they lie, are still to come; they leave so many parts."""
+        self.later = {number: self.own[number] for number in later}
+        for number, before in self.later.items():
+            self.own[number] = {
+                osd: -most if own < -most else most if own > most else own for osd, own in before.items()
+            }
+            self.add(
+                number, {osd: parts - before[osd] for osd, parts in self.own[number].items() if parts != before[osd]}
+            )
 
     def put(self, number: int, moved: Mapping[int, int]) -> None:
         """A pool has so many groups more on OSDs that may have some, and from now on it counts as it lies."""
@@ -117,8 +135,10 @@ class Loads:
         for osd, groups in moved.items():
             pool.counts[osd] = pool.counts.get(osd, 0) + groups
         if number in self.later:
-            self.later.discard(number)
-            self.own[number] = pool.deviations()
+            self.own[number] = self.later.pop(number)
+            for osd, groups in moved.items():
+                if osd in self.own[number]:
+                    self.own[number][osd] += groups * GROUP_PARTS
             self.add(number, {osd: parts - own[osd] for osd, parts in self.own[number].items() if parts != own[osd]})
             return
         more = {osd: groups * GROUP_PARTS for osd, groups in moved.items() if osd in own}
@@ -130,19 +150,15 @@ class Loads:
         """What each OSD that may have groups of a pool carries from the others, in 256ths of a group: to the nearest,
         and at most so many.
         """
-        place, squared, found = self.pools[number].place, MEAN_PARTS * MEAN_PARTS, {}
+        place, squared, own = self.pools[number].place, MEAN_PARTS * MEAN_PARTS, self.own[number]
         groups, data = self.groups, self.data
-        if not place:
-            for osd, own in self.own[number].items():
-                nearest = (groups[osd] - own + STEP_PARTS) // (2 * STEP_PARTS)
-                found[osd] = -half if nearest < -half else half if nearest > half else nearest
-            return found
-        one = STEP_PARTS * (2 * squared + WEIGHT * place * place)
-        for osd, own in self.own[number].items():
-            parts = (groups[osd] - own) * squared + WEIGHT * place * (data[osd] - own * place)
-            nearest = (2 * parts + one) // (2 * one)
-            found[osd] = -half if nearest < -half else half if nearest > half else nearest
-        return found
+        if place:
+            one, weight = STEP_PARTS * (2 * squared + WEIGHT * place * place), WEIGHT * place
+            each = ((groups[osd] - more) * squared + weight * (data[osd] - more * place) for osd, more in own.items())
+            nearest = [(2 * parts + one) // (2 * one) for parts in each]
+        else:
+            nearest = [(groups[osd] - more + STEP_PARTS) >> HALF_BITS for osd, more in own.items()]
+        return dict(zip(own, [-half if parts < -half else half if parts > half else parts for parts in nearest]))
 
     def told(self, number: int, half: int) -> dict[int, int]:
         """What the program is told that OSDs carry: what they do, and by how much their shares by weight are above
@@ -153,9 +169,14 @@ class Loads:
             carried[osd] += more
         return with_closed(pool, carried, half) if pool.closed else carried
 
-    def above(self, number: int, half: int) -> dict[int, int]:
-        """How far each OSD counts as above its share of a pool, in parts: with what it carries."""
-        return counted_above(self.pools[number], self.told(number, half))
+    def above(self, number: int, loads: Mapping[int, int]) -> dict[int, int]:
+        """How far each OSD counts as above its share of a pool, in parts: with what it carries, as the program is told
+        it.
+        """
+        own, offset = self.later.get(number, self.own[number]), self.pools[number].offset
+        if offset:
+            return {osd: parts + (loads[osd] - offset.get(osd, 0)) * STEP_PARTS for osd, parts in own.items()}
+        return {osd: parts + loads[osd] * STEP_PARTS for osd, parts in own.items()}
 
 
 def counted_above(pool: Laid, loads: Mapping[int, int]) -> dict[int, int]:

@@ -4,7 +4,8 @@ from __future__ import annotations
 
 import math
 from collections import Counter
-from collections.abc import Iterable, Mapping, Sequence
+from collections.abc import Callable, Iterable, Mapping, Sequence
+from itertools import repeat
 from operator import mul, sub
 from typing import cast
 
@@ -24,7 +25,8 @@ def pool_spread(counts: dict[int, int], shares: dict[int, float]) -> PoolSpreadP
     """The least and greatest number of groups of a pool that an OSD has which may have some, and how far they are from
     their shares, in groups.
     """
-    own = [counts.get(osd, 0) for osd in shares]
+    count: Callable[[int, int], int] = counts.get
+    own = list(map(count, shares, repeat(0)))
     away = list(map(sub, own, shares.values()))
     return {
         "least": min(own, default=0),

@@ -19,7 +19,7 @@ from ..cluster.pool_data import Data
 from ..cluster.unrest import unrest_of
 from ..cluster.view import ClusterView
 from ..faults import Fault
-from ..program.maps import Program, entries_of, group_key
+from ..program.maps import Program, group_key
 from ..values import SLOTS
 from .again import after, moved_data, steps_between
 from .bounds import Measure
@@ -33,13 +33,12 @@ from .json_forms import ClusterParts, DataParts, HindranceParts, PlanParts
 from .measures import Measures, counts_after, pool_spread
 from .mend import mended
 from .pair_plans import PairPlanner
-from .pairs import settled
 from .parts import measure_of_steps, order_of_steps, ordered_parts
 from .pool_plans import PoolPlan, pool_plans
 from .rounds import Live, MOST_MOVES, Planner, left_out
 from .spare import spared
 from .step_order import limited
-from .steps import PlanStep, appended_pairs, batches, in_old_order, steps_by_pool, steps_of
+from .steps import PlanStep, appended_pairs, batches, steps_by_pool, steps_of
 
 # How many groups an OSD may be from its share after a plan, where nothing else is asked for.
 DEVIATION = Fraction(1)
@@ -159,7 +158,7 @@ def cluster_steps(
         kept, lost = steps_in(live)
         left.update(lost)
         steps += kept
-    is_at_rest = planner.is_at_rest and not (left or passed.moved or any(live.has_most for live in lives))
+    is_at_rest = planner.is_at_rest and not (left or passed.moved or planner.goes_on())
     return PlannedSteps(planner.refusals, left, {}, steps, frozenset(passed.first), passed.stays, is_at_rest)
 
 
@@ -167,10 +166,7 @@ def steps_in(live: Live) -> tuple[list[PlanStep], dict[str, Reason]]:
     """The steps from a map to what its session has now, with the fewest pairs; and the groups without a step, as a
     monitor would take away what it gives them, each with the reason. Afterwards no other session is like it.
     """
-    ups, new = live.session.ups(live.changed()), live.session.dump()
-    items = entries_of(new, "pg_upmap_items")
-    live.has_most = any(len(pairs) >= live.pools[group_key(group)[0]]["size"] for group, pairs in items)
-    new = in_old_order(live.value, settled(live.session, new))
+    ups, new = live.session.ups(live.changed()), live.settle()
     steps = steps_of(live.value, live.kept, new, live.before.ups, ups)
     lost = going(live.judge, live.session, new, [step.group for step in steps])
     return [step for step in steps if step.group not in lost], lost

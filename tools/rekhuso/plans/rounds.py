@@ -11,7 +11,7 @@ from __future__ import annotations
 from collections import Counter
 from collections.abc import Callable, Iterable, Iterator, Mapping, Sequence
 from contextlib import contextmanager
-from typing import Protocol
+from typing import NamedTuple, Protocol
 
 from ..cluster.cleanup import barred, group_fault, pool_of_group
 from ..cluster.judge import Judge, Reason, present_of
@@ -21,8 +21,21 @@ from ..cluster.shares import Shares
 from ..faults import Refused
 from ..program.maps import Exceptions, Map, Pool, entries_of, groups_in, groups_of
 from ..program.session import Session
-from .loads import GROUP_PARTS, Laid, Loads, STEP_PARTS, closed_in, held_by_places, offsets, order_of, shares_of
-from .steps import changed_groups
+from .at_rest import AtRest
+from .loads import (
+    GROUP_PARTS,
+    Laid,
+    Loads,
+    STEP_PARTS,
+    closed_in,
+    held_by_places,
+    offsets,
+    order_of,
+    places_in,
+    shares_of,
+)
+from .pairs import settled
+from .steps import changed_groups, in_old_order
 
 # The most moves of one plan of the program.
 MOST_MOVES = 1024
@@ -42,16 +55,19 @@ class Live:
     session that goes on, and what was where before.
     """
 
-    def __init__(self, value: Map, kept: Exceptions, names: Names, judge: Judge, session: Session) -> None:
-        """Takes a session over a map, and asks for the set of each group."""
+    def __init__(
+        self, value: Map, kept: Exceptions, names: Names, judge: Judge, session: Session, before: Shares | None = None
+    ) -> None:
+        """Takes a session over a map, and asks for the set of each group, unless it is told where all are."""
         self.value, self.kept, self.names, self.judge, self.session = value, kept, names, judge, session
-        self.before = Shares(value, session.ups(groups_of(value)))
+        self.before = Shares(value, session.ups(groups_of(value))) if before is None else before
         self.pools: dict[int, Pool] = {pool["id"]: pool for pool in value["pools"]}
         self.totals = dict(self.before.counts)
         self.present = present_of(value)
         self.barred = barred(judge, value, self.before.sets)
-        self.is_by_weight, self.has_most = False, False
+        self.is_by_weight, self.freed = False, set[int]()
         self.closed = closed_in(self.before.reached)
+        self.shares: dict[tuple[int, ...], tuple[dict[int, int], dict[int, int], frozenset[int]]] = {}
         self.alone: dict[int, str] = {}
 
     def leave_alone(self, pools: Mapping[int, str]) -> None:
@@ -80,15 +96,30 @@ class Live:
         """The groups that have other pairs now."""
         return changed_groups(self.value, self.session.dump())
 
+    def down(self) -> list[int]:
+        """The OSDs that are there and down."""
+        return [osd["id"] for osd in self.value["osds"] if osd["exists"] and not osd["up"]]
+
     @contextmanager
     def all_up(self) -> Iterator[None]:
         """All OSDs that are there are up meanwhile, so that up sets are the mapped ones."""
-        down = [osd["id"] for osd in self.value["osds"] if osd["exists"] and not osd["up"]]
+        down = self.down()
         if down:
             self.session.change(up=down)
         yield
         if down:
             self.session.change(down=down)
+
+    def settle(self) -> Map:
+        """The session's map with the fewest pairs, where all OSDs are up then; some pools may have moves by that."""
+        ends = self.session.dump()
+        found = in_old_order(self.value, settled(self.session, ends))
+        now: dict[str, list[list[int]]] = dict(entries_of(found, "pg_upmap_items"))
+        for group, pairs in entries_of(ends, "pg_upmap_items"):
+            pool = int(group.split(".")[0])
+            if len(now.get(group, ())) < len(pairs) >= self.pools[pool]["size"]:
+                self.freed.add(pool)
+        return found
 
     def take_back(self, groups: list[str]) -> None:
         """Gives some groups the pairs that they had before, where they have others."""
@@ -158,11 +189,14 @@ def pools_of(groups: Iterable[str]) -> set[int]:
 
 
 def laid_of(live: Live, pool: Pool, place: int, counts: dict[int, int]) -> Laid:
-    """A pool as it lies, whose places each hold so much."""
+    """A pool as it lies, whose places each hold so much. Pools of one rule that are as large have the same shares."""
     trees, goals = live.before.trees_for(pool), live.goal_trees(pool)
-    shares = shares_of(goals, counts)
-    offset = {} if goals == trees else offsets(shares_of(trees, counts), shares)
-    closed = frozenset[int]() if live.is_by_weight else live.closed.intersection(shares)
+    key = pool["rule"], pool["size"], *places_in(goals, counts), *places_in(trees, counts)
+    if key not in live.shares:
+        shares = shares_of(goals, counts)
+        closed = frozenset[int]() if live.is_by_weight else live.closed.intersection(shares)
+        live.shares[key] = shares, {} if goals == trees else offsets(shares_of(trees, counts), shares), closed
+    shares, offset, closed = live.shares[key]
     return Laid(place, shares, counts, offset, closed)
 
 
@@ -174,6 +208,13 @@ class ByPairs(Protocol):
 
     def plan(self, live: Live, pool: Pool, above: dict[int, int], apart: int, most: int) -> int:
         """Makes at most so many moves between OSDs that differ by more than so many parts of a group."""
+
+
+class Told(NamedTuple):
+    """What is told of a pool: what OSDs carry, and how far each is above its share with that."""
+
+    loads: dict[int, int]
+    above: dict[int, int]
 
 
 class Planner:
@@ -195,23 +236,24 @@ class Planner:
             self.laid[number] = laid_of(live, pools[number], of_place[number], counts)
         self.order = order_of(wanted, places, held)
         self.refusals = {number: why for live in lives for number, why in live.refusals().items() if number in wanted}
-        self.loads = self.laid_on([])
+        self.loads: Loads
         self.is_at_rest = False
         self.by_pairs: ByPairs | None = None
         self.left: dict[str, Reason] = {}
         self.hopeless: set[int] = set()
+        self.at_rest = AtRest(2 * half * STEP_PARTS)
 
-    def laid_on(self, later: Iterable[int]) -> Loads:
-        """What the pools lay on OSDs, of which some are still to be planned."""
-        return Loads(self.laid, later, self.half * STEP_PARTS)
+    def told(self, number: int) -> Told:
+        """What is told of a pool as the others lie."""
+        loads = self.loads.told(number, self.half)
+        return Told(loads, self.loads.above(number, loads))
 
-    def may_move(self, number: int) -> bool:
-        """Whether two OSDs differ enough for a move of a pool, beside what the others lay on them."""
+    def may_move(self, number: int, told: Told) -> bool:
+        """Whether a pool may have a move, beside what the others lay on OSDs."""
         live = self.live_of[number]
         if number in self.refusals or not (live.has_one_block(live.pools[number]) or self.goes_by_pairs(number)):
             return False
-        above = self.loads.above(number, self.half).values()
-        return max(above, default=0) - min(above, default=0) > (2 * self.half - 2) * STEP_PARTS
+        return self.at_rest.has_move(number, told.above, self.laid[number].counts)
 
     def goes_by_pairs(self, number: int) -> bool:
         """Whether the rule of a pool has several blocks by which its plan can be made."""
@@ -222,26 +264,38 @@ class Planner:
         """The pools that are not at rest, once the first move that there is has been made: those that may have one.
         None where no pool has any.
         """
-        self.loads = self.laid_on([])
+        self.loads = Loads(self.laid)
         for pool in self.order:
-            if self.may_move(pool) and self.plan(pool, 1):
-                return {other for other in self.order if self.may_move(other)}
+            if self.plan(pool, 1):
+                return {other for other in self.order if self.may_move(other, self.told(other))}
         return set()
 
     def plan(self, number: int, most: int = MOST_MOVES) -> int:
-        """Plans a pool from where it is, and tells how many moves were made; the program may refuse it."""
-        live, moves = self.live_of[number], 0
+        """Plans a pool from where it is, where it may have a move, and tells how many moves were made; the program may
+        refuse it.
+        """
+        told, pool = self.told(number), self.live_of[number].pools[number]
+        moves = self.moves(pool, told, most) if self.may_move(number, told) else 0
+        moved = self.live_of[number].moved(pool, self.laid[number]) if moves else {}
+        self.loads.put(number, moved)
+        self.at_rest.drop([number] if moves else [])
+        for osd, groups in moved.items():
+            if osd in told.above:
+                told.above[osd] += groups * GROUP_PARTS
+        if moves < most and number not in self.refusals:
+            self.at_rest.put(number, told.above)
+        return moves
+
+    def moves(self, pool: Pool, told: Told, most: int) -> int:
+        """How many moves of a pool were made; none where the program refuses it."""
+        number, live = pool["id"], self.live_of[pool["id"]]
         try:
             if self.by_pairs is not None and self.goes_by_pairs(number):
-                above, apart = self.loads.above(number, self.half), 2 * self.half * STEP_PARTS
-                moves = self.by_pairs.plan(live, live.pools[number], above, apart, most)
-            else:
-                loads = self.loads.told(number, self.half)
-                moves = live.session.balance(number, most, 2 * self.half, loads).moves
+                return self.by_pairs.plan(live, pool, dict(told.above), 2 * self.half * STEP_PARTS, most)
+            return live.session.balance(number, most, 2 * self.half, told.loads).moves
         except Refused as refused:
             self.refusals[number] = f"{refused.number} {refused.name}"
-        self.loads.put(number, live.moved(live.pools[number], self.laid[number]) if moves else {})
-        return moves
+            return 0
 
     def leave_out(self) -> set[int]:
         """Takes groups back that are left out, which are not moved again, and tells their pools. A pool all of whose
@@ -257,6 +311,7 @@ class Planner:
                 live.take_back(list(groups))
                 live.bar(list(groups))
                 self.left.update(groups)
+                self.at_rest.drop(pools_of(groups))
                 found |= pools_of(groups)
                 for group in groups:
                     self.come_back(live, group, gone[group].places)
@@ -286,7 +341,8 @@ class Planner:
             if number in self.order and not live.has_one_block(live.pools[number]) and not self.goes_by_pairs(number):
                 self.refusals.setdefault(number, REFUSED_BLOCKS)
         later = self.begun()
-        self.loads, self.is_at_rest = self.laid_on(later), not later
+        self.loads.put_off(later, self.half * STEP_PARTS)
+        self.is_at_rest = not later
         for number in range(1, MOST_ROUNDS + 1):
             moves = 0 if self.is_at_rest else self.round(number, tell)
             self.is_at_rest = not moves and not self.lowered()
@@ -323,7 +379,7 @@ class Planner:
             if number in self.refusals or number in self.hopeless or not own.counts.get(full):
                 continue
             if self.live_of[number].has_one_block(self.live_of[number].pools[number]):
-                above = self.loads.above(number, self.half)
+                above = self.told(number).above
                 low = (osd for osd in above if osd not in own.closed and groups[full] - groups[osd] > apart)
                 found += [(above[osd] - above[full], number, osd) for osd in low if full in above]
         best = sorted(way for way in found if -way[0] > GROUP_PARTS)[:TRIED]
@@ -335,12 +391,24 @@ class Planner:
         moves = live.session.balance(number, 1, GAP, {leaves: VAST, comes: -VAST}).moves
         if moves:
             self.loads.put(number, live.moved(live.pools[number], self.laid[number]))
+            self.at_rest.drop([number])
         return moves > 0
+
+    def goes_on(self) -> bool:
+        """Whether a pool has a move once groups have the fewest pairs, as some had as many as they may have."""
+        for live in self.lives:
+            self.at_rest.drop(live.freed)
+            down = live.down() if live.freed else []
+            if down:
+                live.session.change(down=down)
+            if any(self.plan(number, 1) for number in self.order if number in live.freed):
+                return True
+        return False
 
     def round(self, number: int, tell: Callable[[str], None]) -> int:
         """Plans each pool that may have a move, and tells how many moves were made."""
         moves, again = 0, [pool for pool in self.order if pool not in self.refusals and pool not in self.hopeless]
         for at, pool in enumerate(again, 1):
             tell(f"round {number}: pool {at} of {len(again)}")
-            moves += self.plan(pool) if number == 1 or self.may_move(pool) else 0
+            moves += self.plan(pool)
         return moves

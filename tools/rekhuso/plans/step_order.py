@@ -63,6 +63,7 @@ class StepOrder:
         self.high: dict[int, float] = {}
         self.busy = Busy(NO_LIMIT)
         self.partakers = [partakers(step.was, come) for step, come in zip(steps, self.come)]
+        self.level = {osd: self.full(osd) for osds in self.come + self.go for osd in osds}
         self.bound, end = 0.0, dict(self.has)
         for at in range(len(steps)):
             self.shift(end, at)
@@ -114,16 +115,21 @@ class StepOrder:
         return [osd for osd in self.come[at] if osd in limits and self.high.get(osd, 0) + size > limits[osd]]
 
     def next_from(self, osd: int, first: bool) -> int | None:
-        """The step from an OSD that comes next in the part, or None where none may come."""
+        """The step from an OSD that comes next in the part, or None where none may come: that to the emptiest OSD, of
+        those that may come.
+        """
+        level, come = self.level, self.come
         self.leaving[osd] = [at for at in self.leaving[osd] if at in self.left]
-        allowed = [at for at in self.leaving[osd] if (at in self.first or not first) and self.is_allowed(at)]
-        ranked = [(max(map(self.full, self.come[at]), default=0.0), at) for at in allowed]
-        return min(ranked)[1] if ranked else None
+        own = [at for at in self.leaving[osd] if at in self.first] if first else self.leaving[osd]
+        ranked = sorted([(max([level[other] for other in come[at]], default=0.0), at) for at in own])
+        return next((at for _, at in ranked if self.is_allowed(at)), None)
 
     def take(self, at: int) -> None:
         """Takes a step."""
         self.left.discard(at)
         self.shift(self.has, at)
+        for osd in self.come[at] + self.go[at]:
+            self.level[osd] = self.full(osd)
         for osd in self.come[at]:
             self.high[osd] = self.high.get(osd, 0) + self.sizes[at]
         self.busy.take(self.partakers[at])

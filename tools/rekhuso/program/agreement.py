@@ -3,14 +3,17 @@
 from __future__ import annotations
 
 import re
-from collections.abc import Iterable
+from collections.abc import Sequence
+from itertools import repeat
 
 from ..faults import Trouble
 
 # Look-ups at the map as it is, whose answers have its epoch and what was asked of; and with those at the follower's map
 # the form of what follows.
 LOOKS = ("up", "count", "groups")
-SET = re.compile(r"\[(?:(?:none|[0-9]+)(?:,(?:none|[0-9]+))*)?\] (?:-1|[0-9]+)")
+PLACES, PRIMARY = re.compile(r"\[(?:(?:none|[0-9]+)(?:,(?:none|[0-9]+))*)?\]"), re.compile("-1|[0-9]+")
+SETS = re.compile(f"(?: {PLACES.pattern})*")
+SET = re.compile(f"{PLACES.pattern} (?:{PRIMARY.pattern})")
 FORMS = {
     "up": SET,
     "fup": SET,
@@ -29,15 +32,20 @@ class Agreement:
         """Begins with no epoch."""
         self.epoch, self.is_alone = 0, False
 
-    def check(self, lines: Iterable[str], answers: Iterable[str]) -> None:
+    def check(self, lines: Sequence[str], answers: Sequence[str]) -> None:
         """A fault at the first answer that is none of its line."""
-        for line, answer in zip(lines, answers):
-            word, _, asked = line.partition(" ")
-            if word in FORMS and not answer.startswith("err "):
-                self.check_look(word, asked, answer)
-            elif answer.startswith(("ok ", "moved ")):
-                words = answer.split(" ")
-                self.epoch = number_in(words[1] if words[0] == "ok" else words[-1]) or self.epoch
+        if not are_sets_at(str(self.epoch), lines, answers):
+            for line, answer in zip(lines, answers):
+                self.check_answer(line, answer)
+
+    def check_answer(self, line: str, answer: str) -> None:
+        """A fault where an answer is none of its line."""
+        word, _, asked = line.partition(" ")
+        if word in FORMS and not answer.startswith("err "):
+            self.check_look(word, asked, answer)
+        elif answer.startswith(("ok ", "moved ")):
+            words = answer.split(" ")
+            self.epoch = number_in(words[1] if words[0] == "ok" else words[-1]) or self.epoch
 
     def check_look(self, word: str, asked: str, answer: str) -> None:
         """A fault where an answer is none of a look-up."""
@@ -49,6 +57,18 @@ class Agreement:
             raise Trouble(f"another program: to {f'{word} {asked}'[:60]!r}{at} it answers {answer[:60]!r}")
         if word in LOOKS:
             self.epoch = epoch
+
+
+def are_sets_at(epoch: str, lines: Sequence[str], answers: Sequence[str]) -> bool:
+    """Whether lines ask for up sets alone and all answers are theirs, with this epoch: most are, and are many."""
+    if len(answers) != len(lines) or set(map(str.count, answers, repeat(" "))) != {4}:
+        return False
+    words = " ".join(answers).split(" ")
+    is_its = (
+        set(words[::5]) == {"up"} and set(words[1::5]) == {epoch} and list(map("up ".__add__, words[2::5])) == lines
+    )
+    is_set = is_its and SETS.fullmatch(" ".join(["", *words[3::5]])) is not None
+    return is_set and all(map(PRIMARY.fullmatch, set(words[4::5])))
 
 
 def number_in(word: str) -> int | None:

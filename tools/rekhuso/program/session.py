@@ -81,9 +81,10 @@ class Session:
             if len(answers) <= wanted:
                 self._gone()
             sender.join()
+        del answers[wanted:]
         if wanted == len(lines):
             self._agreement.check(lines, answers)
-        return answers[:wanted]
+        return answers
 
     def ask(self, lines: list[str]) -> list[str]:
         """The answer of each line; a refusal ends this as `Refused`."""
