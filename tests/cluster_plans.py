@@ -711,7 +711,7 @@ class ClusterPlans(StockCase):
         there = places(self.tools.sets(value)["1.2"])
         pair = [there[0], next(osd for osd in range(12) if osd not in there and osd != 4)]
         value["pg_upmap_items"] = [["1.2", [pair]]]
-        keeps, before, why = rounds.left_out, self.tools.sets(value), Reason("a step", "why")
+        keeps, before, why = rounds.left_out, self.tools.sets(value), Reason("choose", "a step", "why")
         rounds.left_out = lambda _, groups: {group: why for group in groups if int(group.split(".")[1], 16) % 2 == 0}
         try:
             with Monitor(value, self.tools.program, stock=True) as monitor:

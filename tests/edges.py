@@ -25,6 +25,8 @@ DIGITS = "1" * 5000
 GROUPS: list[object] = [f"{DIGITS}.0", f"1.{DIGITS}", "-1.0", "1", "x", "1.1F", "1.01", "1.1\n", "", None]
 # What is told of a text that is no group as Ceph writes them.
 NO_GROUP = "no group; one is written as 1.1f"
+# What is done about a dump that is not of its form.
+AGAIN = "no monitor dumps it so: take both dumps again"
 SECONDS = 30
 
 
@@ -131,7 +133,7 @@ class Edges(ToolCase):
             with self.subTest(told=told, number=str(number)[:20]):
                 osd = self.tools.put("osd", with_value(files["osd"], place, number))
                 status, error = self.ended("import", osd, self.tools.put("crush", files["crush"]))
-                self.assertEqual((status, error.splitlines()), (1, [f"{osd}: {told}"]))
+                self.assertEqual((status, error.splitlines()), (1, [f"{osd}: {told}: {AGAIN}"]))
 
     def test_groups(self) -> None:
         """A group that is not written as Ceph writes them is told by its place, whichever command reads the dump, and
@@ -154,7 +156,7 @@ class Edges(ToolCase):
                 for command, *words in commands if table == "pg_upmap_items" else commands[:1]:
                     with self.subTest(command=command, table=table, group=group):
                         status, error = self.ended(command, osd, crush, *words)
-                        self.assertEqual((status, error), (1, f"{osd}: {table}[0].pgid: {NO_GROUP}\n"))
+                        self.assertEqual((status, error), (1, f"{osd}: {table}[0].pgid: {NO_GROUP}: {AGAIN}\n"))
         osd = self.tools.put("osd", files["osd"])
         for group in ("x", f"{pool}.1F", f"{pool}.01"):
             with self.subTest(group=group):

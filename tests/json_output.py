@@ -139,6 +139,9 @@ class JsonOutput(ToolCase):
         told = json.loads(output)
         self.assertEqual((status, told["comes_in"], told["maps"]), (1, False, []), error)
         self.assertEqual([without_names(line) for line in told["reasons"]], error.splitlines()[:-1])
+        own = told["against"]
+        self.assertEqual([f"{one['why']}: {one['advice']}" for one in own], told["reasons"])
+        self.assertEqual([one["code"] for one in own], ["pool-size-plain"])
         self.is_told(
             self.tools.run("import", *files, "--json", "--out", "folder"),
             2,

@@ -14,6 +14,9 @@ from typing import Any
 
 from tests.cases import TOP
 
+from rekhuso.cluster import judge
+from rekhuso.cluster.reasons import kinds
+
 SCHEMAS = TOP / "tools" / "rekhuso" / "schemas"
 # What a schema may say here. What none of these tells is not looked at, so no schema has it.
 KNOWN = {
@@ -131,6 +134,19 @@ class Schemas(unittest.TestCase):
                     self.assertLessEqual(set(part.get("required", [])), set(part.get("properties", {})))
                 used = {part["$ref"].removeprefix("#/$defs/") for part in every if "$ref" in part}
                 self.assertEqual(used, set(schema.get("$defs", {})))
+
+    def test_codes(self) -> None:
+        """Each code of a reason stands in the schemas, in docs/CEPH.md, and in a module that gives it."""
+        page = (TOP / "docs" / "CEPH.md").read_text()
+        cluster, plans = TOP / "tools" / "rekhuso" / "cluster", TOP / "tools" / "rekhuso" / "plans"
+        texts = "".join(path.read_text() for path in [*cluster.rglob("*.py"), *plans.rglob("*.py")])
+        for codes, name in ((kinds.CODES, "import"), (judge.CODES, "hold"), (judge.CODES, "drain")):
+            enums = [part["enum"] for part in parts(schema_of(name)) if "enum" in part]
+            self.assertIn(list(codes), enums)
+            for code in codes:
+                with self.subTest(code=code):
+                    self.assertIn(f"`{code}`", page)
+                    self.assertGreater(texts.count(f'"{code.removesuffix(kinds.BARE)}"'), 1)
 
     def test_faults(self) -> None:
         """What is not as a schema says is found, and where."""

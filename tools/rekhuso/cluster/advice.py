@@ -2,23 +2,40 @@
 
 from __future__ import annotations
 
-import re
+from dataclasses import dataclass
 from typing import NamedTuple
 
-from ..program.map_forms import ITEMS, PLAIN, STOCK
+from ..program.map_forms import ITEMS, STOCK
+from ..values import SLOTS
 from ..words import some
+from .json_forms import AgainstParts
 from .moving_advice import HELD
 from .reasons.counts import FEW
+from .reasons.kinds import Against
 
 
 class Advice(NamedTuple):
-    """A kind of reason, by a pattern whose first group is what it is told of; what is done about it; and how many of
-    it are told as one, if they are.
-    """
+    """What is done about a kind of reason; and how many of it are told as one, if they are."""
 
-    pattern: str
     done: str
     many: str = ""
+
+
+@dataclass(frozen=True, **SLOTS)
+class Advised:
+    """A reason, or several of one kind, as told: the code, why the cluster stays out, and what is done about it."""
+
+    code: str
+    why: str
+    done: str
+
+    def line(self) -> str:
+        """All of it in one line."""
+        return f"{self.why}{'' if self.why.endswith('?') else ':' if self.done else ''} {self.done}".rstrip()
+
+    def parts(self) -> AgainstParts:
+        """It as told as JSON."""
+        return {"code": self.code, "why": self.why, "advice": self.done or None}
 
 
 # What stands for the words that take the pools that come in, where some do.
@@ -29,104 +46,72 @@ SOME = "--pools takes some pools at a time"
 AGAIN = "no monitor dumps it so: take both dumps again"
 # What keeps a cluster out whose maps have no straw2 bucket.
 BARE = "only a map with straw2 buckets holds more"
-ADVICES = (
-    *(
-        Advice(
-            rf"^bucket (.+) has \d+ items, more than {most}$",
-            f"{why}; {POOLS}",
-            f"{{count}} buckets have more than {most} items: {{names}}",
-        )
-        for most, why in ((ITEMS, "only a straw2 bucket holds more in a map"), (STOCK.items, "no map holds so many"))
+UNLINKED = "`ceph osd crush unlink` takes "
+ADVICES = {
+    **dict.fromkeys(
+        ("form", "bucket-kind", "bucket-twice", "weight", "no-bucket", "rule-take", "rule-type", "rule-twice"),
+        Advice(AGAIN),
     ),
-    Advice(
-        r"^bucket (.+): the weight of (?!osd\.).+ is 0$",
+    **dict.fromkeys(("pool-twice", "osd-max", "osd-twice", "osd-absent"), Advice(AGAIN)),
+    "older-release": Advice("the tools take the dumps of later ones alone"),
+    "bucket-items-plain": Advice(
+        f"only a straw2 bucket holds more in a map; {POOLS}",
+        f"{{count}} buckets have more than {ITEMS} items: {{names}}",
+    ),
+    "bucket-items": Advice(
+        f"no map holds so many; {POOLS}", f"{{count}} buckets have more than {STOCK.items} items: {{names}}"
+    ),
+    "bucket-weightless": Advice(
         "no map holds it; `ceph osd crush reweight` gives the OSDs below it a weight, and `ceph osd crush rm` takes an "
         "empty bucket away",
         "{count} buckets below buckets that are not straw2 have the weight 0: in {names}",
     ),
-    Advice(
-        r"^bucket (.+): the weight of .+ is 0$",
+    "osd-weightless": Advice(
         "no map holds it; `ceph osd crush reweight` gives it a weight",
         "{count} items of buckets that are not straw2 have the weight 0: in {names}",
     ),
-    Advice(
-        rf"^pool (\d+) has (?:\d+ groups, more than {PLAIN.groups}|size \d+, more than {PLAIN.size})$",
-        f"{BARE}; {POOLS}",
-    ),
-    Advice(r"^pool (\d+) has (?:\d+ groups|size \d+), more than", f"no map holds it; {POOLS}"),
-    Advice(
-        rf"^\d+ (?:buckets that pools use, more than {PLAIN.buckets}|pools, more than {PLAIN.pools}|"
-        rf"rules that pools use, more than {PLAIN.rules})$",
-        f"{BARE}; {SOME}",
-    ),
-    Advice(
-        r"^\d+ (?:pools|buckets that pools use|rules that pools use), more than| groups together, more than",
-        f"no map holds so many; {SOME}",
-    ),
-    Advice(
-        r"straw buckets?, as ", "`ceph osd crush set-all-straw-buckets-to-straw2` makes them straw2 (Nautilus or later)"
-    ),
-    Advice(r"^tunable ", f"`ceph osd crush tunables jewel` sets all of them, and moves data once; {HELD}"),
-    Advice(r"^no tunable ", "take the dump by Ceph 10.2 or later"),
-    Advice(r"crush_ruleset in its place", "the tools take the dumps of later ones alone"),
-    Advice(
-        r"^pool (\d+) is without hashpspool",
+    **dict.fromkeys(("pool-groups-plain", "pool-size-plain"), Advice(f"{BARE}; {POOLS}")),
+    **dict.fromkeys(("pool-groups", "pool-size"), Advice(f"no map holds it; {POOLS}")),
+    **dict.fromkeys(("buckets-plain", "pools-plain", "rules-plain"), Advice(f"{BARE}; {SOME}")),
+    **dict.fromkeys(("buckets", "pools", "rules", "groups"), Advice(f"no map holds so many; {SOME}")),
+    "straw-bucket": Advice("`ceph osd crush set-all-straw-buckets-to-straw2` makes them straw2 (Nautilus or later)"),
+    "tunable": Advice(f"`ceph osd crush tunables jewel` sets all of them, and moves data once; {HELD}"),
+    "no-tunable": Advice("take the dump by Ceph 10.2 or later"),
+    "pool-hashpspool": Advice(
         f"`ceph osd pool set POOL hashpspool true --yes-i-really-mean-it` sets it, and moves its data once; {HELD}; "
-        f"{POOLS}",
+        f"{POOLS}"
     ),
-    Advice(
-        r"^choose_args.*: of pools",
-        f"`ceph osd crush weight-set rm POOL` takes each away, once the balancer is off{{moves}}; {HELD}; {POOLS}",
+    "weight-sets-of-pools": Advice(
+        f"`ceph osd crush weight-set rm POOL` takes each away, once the balancer is off{MOVES}; {HELD}; {POOLS}"
     ),
-    Advice(
-        r"^choose_args",
-        f"`ceph osd crush weight-set rm-compat` takes it away, once the balancer is off, which moves data; {HELD}",
+    "weight-set": Advice(
+        f"`ceph osd crush weight-set rm-compat` takes it away, once the balancer is off, which moves data; {HELD}"
     ),
-    Advice(
-        r"can pick the empty bucket (.+~.+)$",
+    "class-empty": Advice(
         "no OSD of the class is left; `ceph osd pool set POOL crush_rule RULE` gives a pool of that rule another, "
-        f"which moves its data; {POOLS}",
+        f"which moves its data; {POOLS}"
     ),
-    Advice(
-        r"can pick the empty bucket (.+)$",
-        "`ceph osd crush rm` takes it away, or `ceph osd crush reweight-all` gives it the weight 0",
-    ),
-    Advice(rf"(?:is|OSDs are) at or above osd\.{PLAIN.osds}\b", BARE),
-    Advice(r"(?:is|OSDs are) at or above", "no map holds an OSD of such a number"),
-    Advice(
-        r"the OSD dump does not list",
+    "bucket-empty": Advice("`ceph osd crush rm` takes it away, or `ceph osd crush reweight-all` gives it the weight 0"),
+    "osd-id-plain": Advice(BARE),
+    "osd-id": Advice("no map holds an OSD of such a number"),
+    "not-in-osd-dump": Advice(
         "take both dumps at one time; where the OSD was removed, --tree tells its reweight (`ceph osd tree -f "
-        "json`), --unmatched takes it as out, which is right where it was, and `ceph osd crush rm` takes it away",
+        "json`), --unmatched takes it as out, which is right where it was, and `ceph osd crush rm` takes it away"
     ),
-    Advice(
-        r"the CRUSH dump does not list",
-        "take both dumps at one time; --unmatched takes it as out of reach of every rule",
+    "not-in-crush-dump": Advice("take both dumps at one time; --unmatched takes it as out of reach of every rule"),
+    **dict.fromkeys(
+        ("rule-step", "rule-grammar", "rule-take-osd", "rule-kind", "two-trees", "pool-kind"), Advice(POOLS)
     ),
-    Advice(r"not in the grammar|from two buckets|is of the unknown type| takes osd\.\d+, which is no bucket$", POOLS),
-    Advice(
-        r"which is not below it$",
-        f"`ceph osd crush unlink` takes the lower one out of the other, which moves data; {POOLS}",
-    ),
-    Advice(r"^pool (\d+) is of type", POOLS),
-    Advice(
-        r"^(.+) stands (?:below .+ buckets of|in .+ twice)",
-        f"`ceph osd crush unlink` takes it out of one of them, which moves data; {POOLS}",
+    "type-below": Advice(f"{UNLINKED}the lower one out of the other, which moves data; {POOLS}"),
+    "stands-twice": Advice(
+        f"{UNLINKED}it out of one of them, which moves data; {POOLS}",
         "{count} items stand below a root more than once: {names}",
     ),
-    Advice(
-        r"^the (?:explicit set|pairs) of (\S+) ", "`ceph osd rm-pg-upmap` and `ceph osd rm-pg-upmap-items` take it away"
+    **dict.fromkeys(
+        ("exception-form", "exception-high", "exception-kept"),
+        Advice("`ceph osd rm-pg-upmap` and `ceph osd rm-pg-upmap-items` take it away"),
     ),
-    Advice(
-        r"is listed twice|is listed in the OSD dump, but|no whole number$|: no [a-z]+$|: missing$|which is no bucket$|"
-        r"of the unknown kind|chooses the unknown type|no number of 32 bits$|is not below max_osd",
-        AGAIN,
-    ),
-)
-
-
-def kind_of(reason: str) -> Advice | None:
-    """The kind of a reason; None where nothing is advised."""
-    return next((kind for kind in ADVICES if re.search(kind.pattern, reason)), None)
+}
 
 
 def with_free_pools(done: str, pools: str) -> str:
@@ -135,24 +120,25 @@ def with_free_pools(done: str, pools: str) -> str:
     return done.replace(POOLS, words).removesuffix("; ")
 
 
-def advised(reasons: list[str], pools: str, moves: list[str] | None = None) -> list[str]:
+def as_one(same: list[Against], many: str) -> str:
+    """How many reasons of one kind are told as one."""
+    return many.format(count=len(same), names=some(list(dict.fromkeys(own.of for own in same))))
+
+
+def advised(reasons: list[Against], pools: str, moves: list[str] | None = None) -> list[Advised]:
     """Each reason with what is done about it, where some pools come in, and what that moves; and of those kinds that
-    are told as one, more than a few in one line.
+    are told as one, more than a few in one.
     """
     moved = dict(zip(reasons, moves or []))
-    kinds = [kind_of(reason) for reason in reasons]
-    found: list[str] = []
-    told: set[Advice] = set()
-    for reason, kind in zip(reasons, kinds):
-        words = moved.get(reason, "")
-        if kind is None or kind in told:
-            found += [reason] if kind is None else []
-            continue
-        same = [other for other, own in zip(reasons, kinds) if own == kind]
-        if kind.many and len(same) > FEW:
-            told.add(kind)
-            names = [match[1] for match in (re.search(kind.pattern, other) for other in same) if match]
-            reason = kind.many.format(count=len(same), names=some(list(dict.fromkeys(names))))
-        done = with_free_pools(kind.done, pools).replace(MOVES, words)
-        found.append(f"{reason}{'' if reason.endswith('?') else ':' if done else ''} {done}".rstrip())
+    found: list[Advised] = []
+    told: set[str] = set()
+    for reason in reasons:
+        code, why = reason.code, reason.line
+        kind = ADVICES.get(code, Advice(""))
+        same = [own for own in reasons if own.code == code] if kind.many else []
+        if len(same) > FEW:
+            why = as_one(same, kind.many)
+        if code not in told:
+            found.append(Advised(code, why, with_free_pools(kind.done, pools).replace(MOVES, moved.get(reason, ""))))
+        told |= {code} if len(same) > FEW else set()
     return found

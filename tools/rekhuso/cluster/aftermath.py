@@ -19,6 +19,7 @@ from .map_dumps import cluster_of_map
 from .map_parts import map_clusters
 from .new_crush import NewCrush, PoolChange, with_new_crush, with_pool_change
 from .reasons import reasons
+from .reasons.kinds import Against
 from .shadows import with_shadows
 
 
@@ -149,14 +150,14 @@ def cleaned_at(
     return first, cleaned(judge, present, raw, first.kept)
 
 
-def after_command(cluster: Cluster, step: Command, known: set[str]) -> Cluster:
+def after_command(cluster: Cluster, step: Command, known: set[Against]) -> Cluster:
     """A cluster after a command, before the monitor looks at exceptions. A fault where it then stays out for reasons
     that are not known.
     """
     cluster = with_command(cluster, step)
-    found = [line for line in reasons(cluster, True, False) if line not in known]
+    found = [own for own in reasons(cluster, True, False) if own not in known]
     if found:
-        raise Fault(*(f"after the change {line}" for line in found))
+        raise Fault(*(f"after the change {own.line}" for own in found))
     return cluster
 
 

@@ -57,10 +57,10 @@ def group_fault(group: str, pools: Mapping[int, Pool], pending: Mapping[int, int
     number, own = group_key(group)
     pool = pools.get(number)
     if pool is None or own >= pool["pg_num"]:
-        return Reason("a group that is not there", "its pool has fewer groups")
+        return Reason("no-group", "a group that is not there", "its pool has fewer groups")
     joining = range(pending.get(number, pool["pg_num"]), pool["pg_num"])
     if own in joining or own in map(parent_of, joining):
-        return Reason("a pool that shrinks", "the group joins another, or another joins it")
+        return Reason("shrinks", "a pool that shrinks", "the group joins another, or another joins it")
     return None
 
 
@@ -86,16 +86,13 @@ class ExceptedGroup:
     def fault(self, size: int) -> Reason | None:
         """Why exceptions that break no rule go nonetheless; None where they stay."""
         if self.explicit is not None and list(self.explicit) == list(self.raw):
-            return Reason("an explicit set that does nothing", "it is what the rule gives")
+            return Reason("idle-set", "an explicit set that does nothing", "it is what the rule gives")
         if self.explicit is not None and len(self.explicit) != size:
-            return Reason(
-                "an explicit set of another length",
-                f"it has {len(self.explicit)} places, and the pool's size is {size}",
-            )
+            told = f"it has {len(self.explicit)} places, and the pool's size is {size}"
+            return Reason("set-length", "an explicit set of another length", told)
         if self.pairs and not self.acting:
-            return Reason(
-                "pairs that do nothing", "none of them leads from an OSD that the rule gives to one that is in"
-            )
+            told = "none of them leads from an OSD that the rule gives to one that is in"
+            return Reason("idle-pairs", "pairs that do nothing", told)
         return None
 
 
@@ -170,9 +167,8 @@ def reasons_of(judge: Judge, session: Session, new: Map, groups: list[str]) -> d
         "pg_upmap": [entry for entry in entries_of(new, "pg_upmap") if entry[0] in own],
         "pg_upmap_items": [entry for entry in entries_of(new, "pg_upmap_items") if entry[0] in own],
     }
-    found, idle = cleaned(judge, present_of(new), raw, of_groups), Reason(
-        "pairs that do nothing", "some of them do nothing"
-    )
+    found = cleaned(judge, present_of(new), raw, of_groups)
+    idle = Reason("idle-pairs", "pairs that do nothing", "some of them do nothing")
     return {group: found.gone.get(group, idle) for group in groups}
 
 

@@ -27,6 +27,7 @@ from .dump_forms import (
 )
 from .dump_types import CrushDump, OsdDump, Tree
 from .names import pools_named
+from .reasons.kinds import Against, lines_of
 from .reports import CRUSH_PART, OSD_PART, check_no_report, dump_in_report, is_report_file
 from .sources import DumpFiles
 
@@ -38,9 +39,12 @@ MOST_MISFITS = 20
 
 @dataclass(frozen=True, **SLOTS)
 class Misfit:
-    """A place of a dump that is not of its form, in a line; and which pool or rule it is in, where that is known."""
+    """A place of a dump that is not of its form: the file, and the reason that it is; and which pool or rule it is in,
+    where that is known.
+    """
 
-    line: str
+    path: str
+    reason: Against
     pool: int | None
     rule: int | None
 
@@ -60,11 +64,13 @@ def misfit_at(path: str, place: str, value: JsonObject) -> Misfit:
     found = re.match(r"(pools|rules)\[(\d+)\]", place)
     own = value[found[1]][int(found[2])] if found else None
     number = own.get("pool" if found and found[1] == "pools" else "rule_id") if isinstance(own, dict) else None
+    code = "form"
     if place.endswith(".crush_rule: missing") and isinstance(own, dict) and "crush_ruleset" in own:
-        place = f"{place}, and crush_ruleset in its place: is it a dump of Ceph before 12.2?"
+        code, place = "older-release", f"{place}, and crush_ruleset in its place: is it a dump of Ceph before 12.2?"
+    reason = Against(code, f"{path}: {place}")
     if found is None or not is_kind(number, int):
-        return Misfit(f"{path}: {place}", None, None)
-    return Misfit(f"{path}: {place}", *((number, None) if found[1] == "pools" else (None, number)))
+        return Misfit(path, reason, None, None)
+    return Misfit(path, reason, *((number, None) if found[1] == "pools" else (None, number)))
 
 
 def read_dump(path: str, value: JsonObject, shape: DumpForm) -> tuple[JsonObject, frozenset[str], list[Misfit]]:
@@ -86,15 +92,19 @@ def with_plain_names(dump: JsonObject) -> JsonObject:
     return dump
 
 
-def first_lines(faults: list[Misfit]) -> list[str]:
-    """The lines of places that are not of their form, file by file, and of many the first alone."""
-    found: list[str] = []
-    for path in dict.fromkeys(fault.line.partition(": ")[0] for fault in faults):
-        own = [fault.line for fault in faults if fault.line.startswith(f"{path}: ")]
-        found += own[:MOST_MISFITS] + (
-            [f"{path}: and {len(own) - MOST_MISFITS} more"] if len(own) > MOST_MISFITS else []
-        )
+def first_reasons(faults: list[Misfit]) -> list[Against]:
+    """The places that are not of their form, file by file, and of many the first alone."""
+    found: list[Against] = []
+    for path in dict.fromkeys(fault.path for fault in faults):
+        own = [fault.reason for fault in faults if fault.path == path]
+        left = len(own) - MOST_MISFITS
+        found += own[:MOST_MISFITS] + ([Against("more", f"{path}: and {left} more")] if left > 0 else [])
     return found
+
+
+def first_lines(faults: list[Misfit]) -> list[str]:
+    """The same as lines."""
+    return lines_of(first_reasons(faults))
 
 
 def gone_in(tree: Tree, osd_dump: OsdDump) -> dict[int, int]:

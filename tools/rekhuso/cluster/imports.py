@@ -11,16 +11,17 @@ from ..program.map_forms import PLAIN
 from ..program.maps import Map
 from ..values import SLOTS
 from ..words import listed
-from .advice import advised
+from .advice import Advised, advised
 from .cluster import Cluster
 from .conversion import map_of
-from .dumps import Misfit, chosen_cluster, first_lines
+from .dumps import Misfit, chosen_cluster, first_reasons
 from .map_parts import map_clusters
 from .moving_advice import import_moves
 from .names import with_pool_names
 from .reasons import reasons
 from .reasons.buckets import root_reasons
 from .reasons.counts import count_reasons, pools_reason, total_reason
+from .reasons.kinds import Against
 from .reasons.matches import unmatched
 from .reasons.rules import size_reasons
 from .sources import DumpFiles
@@ -63,18 +64,18 @@ def several_words(parts: list[Cluster]) -> str:
     return f"{all_words}, {listed([f'--pools {own}' for own in pools])} one each"
 
 
-def plain_reasons(cluster: Cluster) -> list[str]:
+def plain_reasons(cluster: Cluster) -> list[Advised]:
     """What keeps those maps of a cluster out that have no straw2 bucket, where others have one: such a map has the
     limits of plain ones, by which the program reads it. Each with what is done about it.
     """
     kinds = {cluster.buckets[number]["alg"] for number in cluster.kept}
     parts = map_clusters(cluster) if "straw2" in kinds and len(kinds) > 1 else []
     told = {pool_ids(part): count_reasons(part) if part.limits == PLAIN else [] for part in parts}
-    free = ",".join(pools for pools, lines in told.items() if not lines)
+    free = ",".join(pools for pools, found in told.items() if not found)
     return [
-        f"the map of the pools {pools} has no straw2 bucket: {line}"
-        for pools, lines in told.items()
-        for line in advised(lines, free)
+        Advised(own.code, f"the map of the pools {pools} has no straw2 bucket: {own.why}", own.done)
+        for pools, found in told.items()
+        for own in advised(found, free)
     ]
 
 
@@ -83,10 +84,11 @@ def free_pools(cluster: Cluster, faults: list[Misfit], is_unmatched: bool) -> st
     that it has, or too many for one another.
     """
 
-    def against_these(pools: Iterable[int]) -> set[str]:
+    def against_these(pools: Iterable[int]) -> set[Against]:
         """What keeps some pools out without the others."""
         part = cluster.of_pools(set(pools))
-        return {fault.line for fault in faults if fault.concerns(part, True)} | set(reasons(part, is_unmatched, False))
+        found = {fault.reason for fault in faults if fault.concerns(part, True)}
+        return found | set(reasons(part, is_unmatched, False))
 
     def free_among(pools: list[int]) -> list[int]:
         """Those of some pools that come in, by halves of them."""
@@ -107,30 +109,31 @@ def free_pools(cluster: Cluster, faults: list[Misfit], is_unmatched: bool) -> st
     return ",".join(map(str, sorted(found))) if is_part and not against_these(found) else ""
 
 
-def with_advice(cluster: Cluster, faults: list[Misfit], found: list[str], files: DumpFiles) -> list[str]:
+def with_advice(cluster: Cluster, faults: list[Misfit], found: list[Against], files: DumpFiles) -> list[Advised]:
     """Each reason with what is done about it, and what that moves."""
     pools = free_pools(cluster, faults, files.is_unmatched) if found else ""
-    told = [import_moves(cluster, line, files.program) for line in found]
+    told = [import_moves(cluster, own.code, files.program) for own in found]
     return advised(found, pools, told) + plain_reasons(cluster)
 
 
 def against(cluster: Cluster, faults: list[Misfit], files: DumpFiles, is_one: bool) -> list[str]:
     """All that is told against a cluster; where one map is asked for, what it takes several for too."""
-    found = first_lines(faults) + reasons(cluster, files.is_unmatched, False)
+    found = first_reasons(faults) + reasons(cluster, files.is_unmatched, False)
     several = root_reasons(cluster, True) + size_reasons(cluster)
     several += [] if found else pools_reason(cluster) + total_reason(cluster)
-    apart = [line for line in several if line not in found] if is_one else []
+    apart = [own.line for own in several if own not in found] if is_one else []
     if cluster.is_stock:
-        found = with_advice(cluster, faults, found, files)
+        lines = [own.line() for own in with_advice(cluster, faults, found, files)]
+    else:
+        lines = [own.line for own in found]
     if apart:
         apart[-1] += f"; {several_words(map_clusters(cluster))}"
-    return found + apart
+    return lines + apart
 
 
-def named_reasons(cluster: Cluster, found: list[str]) -> list[str]:
-    """Reasons with the names of pools beside their numbers."""
-    names = {pool["pool"]: pool["pool_name"] for pool in cluster.pools}
-    return [with_pool_names(line, names) for line in found]
+def names_of_pools(cluster: Cluster) -> dict[int, str]:
+    """The names of pools by their numbers."""
+    return {pool["pool"]: pool["pool_name"] for pool in cluster.pools}
 
 
 def imported(files: DumpFiles, is_one: bool = False) -> ImportedCluster:
@@ -140,7 +143,8 @@ def imported(files: DumpFiles, is_one: bool = False) -> ImportedCluster:
     cluster, faults = chosen_cluster(files)
     found = against(cluster, faults, files, is_one)
     if found:
-        raise Fault(*named_reasons(cluster, found))
+        names = names_of_pools(cluster)
+        raise Fault(*(with_pool_names(line, names) for line in found))
     for own in unmatched(cluster):
         print(own.told(), file=sys.stderr)
     parts = map_clusters(cluster)

@@ -73,6 +73,14 @@ class UnrestParts(TypedDict):
     why: str
 
 
+class AgainstParts(TypedDict):
+    """Why a cluster stays out: the kind by its code, in words, and what is done about it, if that is known."""
+
+    code: str
+    why: str
+    advice: str | None
+
+
 class VerifiedParts(TypedDict):
     """How many groups there are, how many lie where the cluster says, how many elsewhere, and of how many the cluster
     does not tell it yet.

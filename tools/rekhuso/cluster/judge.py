@@ -20,10 +20,21 @@ from .names import Names, named, step_words
 Places = Sequence["int | None"]
 
 
+# The codes of what is wrong with exceptions: by a step of the rule, by an OSD, by the group, by the exceptions, and what
+# keeps a group from being held or moved beside that.
+CODES = (
+    *("choose", "chooseleaf", "take", "no-rule", "out", "weightless", "gone", "no-group", "shrinks"),
+    *("idle-set", "set-length", "idle-pairs", "not-chosen", "empty-place", "no-osd"),
+)
+
+
 @dataclass(frozen=True, **SLOTS)
 class Reason:
-    """Why exceptions of a group go: by which step of the rule or which other part of the check, and what is wrong."""
+    """Why exceptions of a group go: a code, by which step of the rule or which other part of the check, and what is
+    wrong.
+    """
 
+    code: str
     step: str
     why: str
 
@@ -152,10 +163,11 @@ class Judge:
             if crowded is None:
                 return None
             osds = " and ".join(f"osd.{osd}" for osd in sorted(inside[crowded]))
-            return Reason(self.words(step), f"{osds} stand below {self.name(crowded)}")
+            return Reason("chooseleaf", self.words(step), f"{osds} stand below {self.name(crowded)}")
         if len(inside) <= count:
             return None
-        return Reason(self.words(step), f"its set stands below {len(inside)} buckets of that type, {count} may be")
+        told = f"its set stands below {len(inside)} buckets of that type, {count} may be"
+        return Reason("choose", self.words(step), told)
 
     def rule_fault(self, rule: int, size: int, places: Places) -> Reason | None:
         """How a set breaks a rule for pools of a size; None where it does not."""
@@ -182,8 +194,8 @@ class Judge:
         """That an OSD stands outside what a rule takes."""
         taken = f"step take {self.name(root)}"
         if osd is None:
-            return Reason(taken, "an empty place counts as an OSD outside of it")
-        return Reason(taken, f"osd.{osd} does not stand below it")
+            return Reason("take", taken, "an empty place counts as an OSD outside of it")
+        return Reason("take", taken, f"osd.{osd} does not stand below it")
 
     def weight_fault(self, rule: int, places: Places, present: Present) -> Reason | None:
         """An OSD of a set that the rule's trees do not have, that weighs 0 there, or that is out; None where there is
@@ -194,15 +206,15 @@ class Judge:
             if osd is None or osd not in weights:
                 return self.outside(osd, self.takes(rule)[0])
             if present.reweights.get(osd, 0) == 0:
-                return Reason("an OSD that is out", f"osd.{osd} is out")
+                return Reason("out", "an OSD that is out", f"osd.{osd} is out")
             if weights[osd] == 0:
-                return Reason("an OSD that weighs 0", f"osd.{osd} weighs 0 in the CRUSH map")
+                return Reason("weightless", "an OSD that weighs 0", f"osd.{osd} weighs 0 in the CRUSH map")
         return None
 
     def fault(self, pool: Pool, places: Places, present: Present) -> Reason | None:
         """Why a monitor takes exceptions that give a group of a pool this set away; None where it lets them stay."""
         if pool["rule"] not in self.tree.rules:
-            return Reason("a rule that is not there", f"pool {pool['id']} uses it")
+            return Reason("no-rule", "a rule that is not there", f"pool {pool['id']} uses it")
         return self.rule_fault(pool["rule"], pool["size"], places) or self.weight_fault(pool["rule"], places, present)
 
 

@@ -4,7 +4,6 @@ the map before and the map after, where it can hold both.
 
 from __future__ import annotations
 
-import re
 from typing import Any
 
 from ..faults import Fault
@@ -81,6 +80,6 @@ def pool_sets_words(cluster: Cluster, program: Program) -> str:
     return f", which moves data: {places_words(moved, places)} of these pools"
 
 
-def import_moves(cluster: Cluster, reason: str, program: Program) -> str:
+def import_moves(cluster: Cluster, code: str, program: Program) -> str:
     """What the advice about a reason moves, behind it; nothing where it is not known, or moves nothing."""
-    return pool_sets_words(cluster, program) if re.search(r"^choose_args.*: of pools", reason) else ""
+    return pool_sets_words(cluster, program) if code == "weight-sets-of-pools" else ""

@@ -145,7 +145,9 @@ def put_drain_json(found: Drain, origin: Origin) -> None:
             for part, peak in zip(found.parts, found.peaks)
         ],
         end={"change": end.change, "commands": end.hold.commands, "left": end.hold.told()["left"]},
-        waiting=[{"group": group, "step": why.step, "why": why.why} for group, why in found.waiting.items()],
+        waiting=[
+            {"group": group, "code": why.code, "step": why.step, "why": why.why} for group, why in found.waiting.items()
+        ],
         undo={"change": found.undo.change, "commands": found.undo.commands},
         **origin.parts(),
     )

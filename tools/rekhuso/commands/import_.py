@@ -12,11 +12,13 @@ import json
 import sys
 from dataclasses import dataclass
 
+from ..cluster.advice import Advised
 from ..cluster.cluster import Cluster
 from ..cluster.conversion import map_of, monitor_of
-from ..cluster.dumps import chosen_cluster, first_lines
-from ..cluster.imports import ImportedCluster, imported, map_file, named_reasons, several_words, with_advice
+from ..cluster.dumps import chosen_cluster, first_reasons
+from ..cluster.imports import ImportedCluster, imported, map_file, names_of_pools, several_words, with_advice
 from ..cluster.map_parts import map_clusters
+from ..cluster.names import with_pool_names
 from ..cluster.omissions import omissions_of, weightless
 from ..cluster.reasons import reasons
 from ..cluster.sources import DumpFiles
@@ -64,11 +66,15 @@ def options_of(arguments: Arguments) -> ImportOptions:
     return ImportOptions(dumps, own.program, own.out, own.names, own.check, own.json, own.pgs, own.anyway)
 
 
-def reasons_against(options: ImportOptions) -> tuple[Cluster, list[str]]:
-    """The cluster, and each reason that keeps it out, with what is done about it."""
+def reasons_against(options: ImportOptions) -> tuple[Cluster, list[Advised]]:
+    """The cluster, and each reason that keeps it out, with what is done about it, pools by their names too."""
     cluster, faults = chosen_cluster(options.dumps)
-    found = first_lines(faults) + reasons(cluster, options.dumps.is_unmatched, False)
-    return cluster, named_reasons(cluster, with_advice(cluster, faults, found, options.dumps))
+    names = names_of_pools(cluster)
+    found = first_reasons(faults) + reasons(cluster, options.dumps.is_unmatched, False)
+    told = with_advice(cluster, faults, found, options.dumps)
+    return cluster, [
+        Advised(own.code, with_pool_names(own.why, names), with_pool_names(own.done, names)) for own in told
+    ]
 
 
 def verified_in(cluster: Cluster, parts: list[Cluster], options: ImportOptions) -> Verified | None:
@@ -90,14 +96,15 @@ def check(options: ImportOptions) -> None:
     """
     cluster, found = reasons_against(options)
     parts = [] if found else map_clusters(cluster)
-    lies = verified_in(cluster, parts, options)
+    lies, lines = verified_in(cluster, parts, options), [own.line() for own in found]
     if options.is_json:
         pools = [[pool["pool"] for pool in part.pools] for part in parts]
-        told = {"comes_in": not found, "reasons": found, "maps": [{"pools": own} for own in pools]}
+        told = {"comes_in": not found, "reasons": lines, "maps": [{"pools": own} for own in pools]}
+        told.update(against=[own.parts() for own in found])
         told.update(unrest=told_unrest(cluster), verified=None if lies is None else lies.counts())
         put_json("import", cluster.epoch, **told)
     if found:
-        raise Fault(*found, f"the cluster stays out, for {counted(len(found), 'reason')}")
+        raise Fault(*lines, f"the cluster stays out, for {counted(len(found), 'reason')}")
     if not options.is_json:
         comes = "the cluster comes in" + (f"; {several_words(parts)}" if len(parts) > 1 else " as one map")
         print("\n".join([comes, *unrest_lines(cluster), *([] if lies is None else [lies.summary()])]))

@@ -36,17 +36,17 @@ ENDING = [AT_LAST, STAYS, END]
 ROUND = [NEEDS_CHANGE, *BEGIN, CHANGE, AT_COMMANDS, *ENDING, STAYS_BEHIND_PARTS, ASKS_TO_STAY]
 
 
-# What can be held instead, by the reason why groups are not.
+# What can be held instead, by the code of the reason why groups are not.
 INSTEAD = {
-    "an OSD that weighs 0": "a weight of 0.0001 in place of 0 can be held: `drain` begins with it, and ends with 0",
-    "an OSD that is out": "hold before out: a weight of 0.0001 can be held: `drain` begins with it, and ends with out",
+    "weightless": "a weight of 0.0001 in place of 0 can be held: `drain` begins with it, and ends with 0",
+    "out": "hold before out: a weight of 0.0001 can be held: `drain` begins with it, and ends with out",
 }
 
 
 def instead_lines(hold: Hold) -> list[str]:
     """What can be held in place of a change by which groups are not."""
-    steps = {own.why.step for own in hold.left() if own.why is not None}
-    return [words for step, words in INSTEAD.items() if step in steps]
+    codes = {own.why.code for own in hold.left() if own.why is not None}
+    return [words for code, words in INSTEAD.items() if code in codes]
 
 
 def idle_lines(hold: Hold, tried: list[str]) -> list[str]:

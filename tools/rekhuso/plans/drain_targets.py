@@ -163,7 +163,9 @@ class Chooser:
                 found = why or self.way(group, places, pool["kind"] == "erasure")
                 faults += [found] if isinstance(found, Reason) else []
         if not faults:
-            return Reason("no OSD is left", "no other OSD is up, in, of some weight and below what the rule takes")
+            return Reason(
+                "no-osd", "no OSD is left", "no other OSD is up, in, of some weight and below what the rule takes"
+            )
         step = Counter(why.step for why in faults).most_common(1)[0][0]
         return next(why for why in faults if why.step == step)
 

@@ -96,6 +96,7 @@ class Hold:
                     "was": own.was,
                     "now": own.now,
                     "places": len(own.lost()),
+                    "code": own.why.code if own.why else None,
                     "step": own.why.step if own.why else "",
                     "why": own.why.why if own.why else "",
                 }

@@ -24,8 +24,8 @@ from ..values import SLOTS
 from .pairs import ordered_pairs
 
 Pairs = list[list[int]]
-NOT_CHOSEN = Reason("the choice of groups", "it is not among the groups that are to be held")
-EMPTY = Reason("an empty place", "no exception leaves a place empty, or fills one")
+NOT_CHOSEN = Reason("not-chosen", "the choice of groups", "it is not among the groups that are to be held")
+EMPTY = Reason("empty-place", "an empty place", "no exception leaves a place empty, or fills one")
 
 
 @dataclass(frozen=True, **SLOTS)
@@ -119,16 +119,18 @@ class Holder:
         pool = self.pools[group_key(group)[0]]
         for osd in [pair[1] for pair in pairs] + list(explicit or []):
             if osd is not None and osd not in self.there:
-                return Reason("an OSD that is gone", f"osd.{osd} does not exist")
+                return Reason("gone", "an OSD that is gone", f"osd.{osd} does not exist")
             if self.present.is_out(osd):
-                return Reason("an OSD that is out", f"osd.{osd} is out")
+                return Reason("out", "an OSD that is out", f"osd.{osd} is out")
             if osd is not None and math.isnan(self.judge.weights(pool["rule"]).get(osd, 0.0)):
-                return Reason("an OSD that weighs 0", f"osd.{osd} weighs 0, and so does all that the rule takes")
+                told = f"osd.{osd} weighs 0, and so does all that the rule takes"
+                return Reason("weightless", "an OSD that weighs 0", told)
         own = ExceptedGroup(explicit, pairs, self.raw[group], self.present)
         found = group_fault(group, self.pools, self.judge.pending)
         found = found or self.judge.fault(pool, own.mapped, self.present) or own.fault(pool["size"])
         if found is None and len(own.acting) < len(pairs):
-            return Reason("pairs that do nothing", "one of them leads from an OSD that the rule does not give")
+            told = "one of them leads from an OSD that the rule does not give"
+            return Reason("idle-pairs", "pairs that do nothing", told)
         return found
 
     def hold(self, group: str, was: list[int | None]) -> Held:

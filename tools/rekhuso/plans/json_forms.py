@@ -141,14 +141,15 @@ class FlowParts(TypedDict):
 
 
 class LeftParts(TypedDict):
-    """A group that is not held: the set that it had and the one that it gets, how many places move, and why: by which
-    step or part of the check.
+    """A group that is not held: the set that it had and the one that it gets, how many places move, and why: by its
+    code, and by which step or part of the check.
     """
 
     group: str
     was: list[int | None]
     now: list[int | None]
     places: int
+    code: str | None
     step: str
     why: str
 

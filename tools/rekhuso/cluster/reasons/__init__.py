@@ -5,13 +5,14 @@ from __future__ import annotations
 from ..cluster import Cluster
 from .buckets import bucket_reasons, root_reasons, twice_reasons
 from .exceptions import absent_reasons, exception_reasons, kept_reasons
+from .kinds import Against
 from .matches import unmatched
 from .pools import osd_reasons, pool_reasons
 from .rules import rule_reasons, tunable_reasons
 
 
-def reasons(cluster: Cluster, is_unmatched: bool, is_one: bool = True) -> list[str]:
-    """All that keeps a cluster from being a map, or where `is_one` is false several maps, each in one line; what
+def reasons(cluster: Cluster, is_unmatched: bool, is_one: bool = True) -> list[Against]:
+    """All that keeps a cluster from being a map, or where `is_one` is false several maps, each by its code; what
     only one dump has is none where `is_unmatched` says so.
     """
     found = bucket_reasons(cluster) + root_reasons(cluster, is_one)

@@ -7,16 +7,17 @@ from typing import Iterable
 
 from ..cluster import Cluster
 from ..dump_types import DumpPool
+from .kinds import BARE, Against, bare
 
 # How many things of one kind are told one by one; of more, their number.
 FEW = 3
 
 
-def range_reason(what: str, number: int, low: int, high: int) -> list[str]:
+def range_reason(code: str, what: str, number: int, low: int, high: int) -> list[Against]:
     """The reason of a number outside its range, as `the epoch is 0, less than 1`; none inside."""
     if number < low:
-        return [f"{what}, less than {low}"]
-    return [f"{what}, more than {high}"] if number > high else []
+        return [Against(code.removesuffix(BARE), f"{what}, less than {low}")]
+    return [Against(code, f"{what}, more than {high}")] if number > high else []
 
 
 def doubles(numbers: Iterable[int]) -> list[int]:
@@ -27,33 +28,37 @@ def doubles(numbers: Iterable[int]) -> list[int]:
 # How many there are
 
 
-def buckets_reason(cluster: Cluster) -> list[str]:
+def buckets_reason(cluster: Cluster) -> list[Against]:
     """More buckets than a map has."""
-    return range_reason(f"{len(cluster.kept)} buckets that pools use", len(cluster.kept), 0, cluster.limits.buckets)
+    code, count = bare(cluster, "buckets"), len(cluster.kept)
+    return range_reason(code, f"{count} buckets that pools use", count, 0, cluster.limits.buckets)
 
 
-def rules_reason(cluster: Cluster) -> list[str]:
+def rules_reason(cluster: Cluster) -> list[Against]:
     """More rules than a map has."""
-    return range_reason(f"{len(cluster.rules)} rules that pools use", len(cluster.rules), 0, cluster.limits.rules)
+    code, count = bare(cluster, "rules"), len(cluster.rules)
+    return range_reason(code, f"{count} rules that pools use", count, 0, cluster.limits.rules)
 
 
-def pools_reason(cluster: Cluster) -> list[str]:
+def pools_reason(cluster: Cluster) -> list[Against]:
     """More pools than a map has."""
-    return range_reason(f"{len(cluster.pools)} pools", len(cluster.pools), 0, cluster.limits.pools)
+    code, count = bare(cluster, "pools"), len(cluster.pools)
+    return range_reason(code, f"{count} pools", count, 0, cluster.limits.pools)
 
 
-def total_reason(cluster: Cluster) -> list[str]:
+def total_reason(cluster: Cluster) -> list[Against]:
     """More groups of all pools than a map has."""
     total = sum(cluster.sizes.values())
-    return range_reason(f"its pools have {total} groups together", total, 0, cluster.limits.total)
+    return range_reason("groups", f"its pools have {total} groups together", total, 0, cluster.limits.total)
 
 
-def groups_reason(cluster: Cluster, pool: DumpPool) -> list[str]:
+def groups_reason(cluster: Cluster, pool: DumpPool) -> list[Against]:
     """More groups than a pool has in a map, or none."""
-    return range_reason(f"pool {pool['pool']} has {pool['pg_num']} groups", pool["pg_num"], 1, cluster.limits.groups)
+    code, count = bare(cluster, "pool-groups"), pool["pg_num"]
+    return range_reason(code, f"pool {pool['pool']} has {count} groups", count, 1, cluster.limits.groups)
 
 
-def count_reasons(cluster: Cluster) -> list[str]:
+def count_reasons(cluster: Cluster) -> list[Against]:
     """More of anything than a map has whose limits depend on its buckets."""
-    groups = [line for pool in cluster.pools if pool["pg_num"] > 0 for line in groups_reason(cluster, pool)]
+    groups = [own for pool in cluster.pools if pool["pg_num"] > 0 for own in groups_reason(cluster, pool)]
     return buckets_reason(cluster) + rules_reason(cluster) + groups

@@ -9,8 +9,11 @@ from ...words import listed, some
 from ..cluster import Cluster
 from .counts import FEW
 from .exceptions import absent_reasons
+from .kinds import Against
 
 QUESTION = ": are both dumps of one cluster?"
+# The codes of what the one dump has not, and the other.
+NO_OSD, NO_ITEM = "not-in-osd-dump", "not-in-crush-dump"
 # How what only one dump has is taken: an OSD of which the other tells no reweight, and one to which no rule comes.
 OUT, FAR = "taken as out", "taken as out of reach"
 
@@ -20,10 +23,12 @@ OUT, FAR = "taken as out", "taken as out of reach"
 
 @dataclass(frozen=True, **SLOTS)
 class Unmatched:
-    """What one dump has and the other has not, in one line; how it is taken where the caller wants it so; what is
-    asked where it is a reason against the cluster; and which OSDs it is, where the line tells their number alone.
+    """What one dump has and the other has not, by its code and in one line; how it is taken where the caller wants it
+    so; what is asked where it is a reason against the cluster; and which OSDs it is, where the line tells their number
+    alone.
     """
 
+    code: str
     line: str
     taken: str
     question: str
@@ -34,9 +39,9 @@ class Unmatched:
         """Whether it keeps nothing out: a few OSDs to which no rule comes, and which so have no groups."""
         return self.taken == FAR and not self.osds
 
-    def reason(self) -> str:
-        """The line of a reason against the cluster."""
-        return self.line + self.question
+    def reason(self) -> Against:
+        """It as a reason against the cluster."""
+        return Against(self.code, self.line + self.question)
 
     def told(self) -> str:
         """The line of what is taken so."""
@@ -52,6 +57,7 @@ def unlisted_devices(cluster: Cluster) -> list[Unmatched]:
     if len(gone) > FEW:
         return [
             Unmatched(
+                NO_OSD,
                 f"{len(gone)} devices stand below {roots}, but the OSD dump does not list them",
                 OUT,
                 QUESTION,
@@ -59,7 +65,7 @@ def unlisted_devices(cluster: Cluster) -> list[Unmatched]:
             )
         ]
     return [
-        Unmatched(f"{name} stands below {roots}, but the OSD dump does not list it", OUT, QUESTION, "")
+        Unmatched(NO_OSD, f"{name} stands below {roots}, but the OSD dump does not list it", OUT, QUESTION, "")
         for name in names
     ]
 
@@ -73,8 +79,8 @@ def unlisted_osds(cluster: Cluster) -> list[Unmatched]:
         if own["up"] and own["weight"] > 0 and osd not in devices
     ]
     if len(names) > FEW:
-        return [Unmatched(f"{len(names)} OSDs are {why} them among its devices", FAR, QUESTION, some(names))]
-    return [Unmatched(f"{name} is {why} it among its devices", FAR, QUESTION, "") for name in names]
+        return [Unmatched(NO_ITEM, f"{len(names)} OSDs are {why} them among its devices", FAR, QUESTION, some(names))]
+    return [Unmatched(NO_ITEM, f"{name} is {why} it among its devices", FAR, QUESTION, "") for name in names]
 
 
 def unmatched(cluster: Cluster) -> list[Unmatched]:
@@ -84,5 +90,5 @@ def unmatched(cluster: Cluster) -> list[Unmatched]:
     if "devices" not in cluster.torn:
         found += unlisted_osds(cluster)
     if has_osds and "max_osd" not in cluster.torn:
-        found += [Unmatched(line, OUT, "", "") for line in absent_reasons(cluster, False)]
+        found += [Unmatched(own.code, own.line, OUT, "", "") for own in absent_reasons(cluster, False)]
     return found
