@@ -272,7 +272,7 @@ class BadHolds(StockCase):
             (["hold", *files, *files, "--out", "osd.1"], "--out does not go with four dumps"),
             (["hold", *files, *files, "--at", files[0]], "--at does not go with four dumps"),
             (["hold", "--at", files[0], *files, "--out", "osd.1"], "--out does not go with --at"),
-            (["hold", *files, "--out", "osd.1", "--batch", "5"], "--batch and --to go together"),
+            (["hold", *files, "--out", "osd.1", "--batch", "5"], "--batch goes with --to"),
             (["hold", *files, "--out", "osd.1", "--json", "--undo"], "--json tells the commands and their undoing"),
             (["hold", *files, "--pool", "rbd", "colour=red"], "argument --pool: colour=red: "),
             (["hold", *files, "--pool", "rbd", "size=0"], "argument --pool: size=0: "),
@@ -280,7 +280,7 @@ class BadHolds(StockCase):
             (["whatif", *files, "--hold"], "nothing is changed"),
             (["whatif", *files, "--out", "osd.1", "--hold", "--balance"], "--hold does not go with --balance"),
             (["release", files[0]], "release takes the two dumps of a cluster"),
-            (["release", *files, "--to", "x"], "--batch and --to go together"),
+            (["release", *files, "--batch", "5"], "--batch goes with --to"),
             (["release", *files, "--json", "--undo"], "--json tells the parts and their undoing"),
         ):
             with self.subTest(words=[str(word)[-12:] for word in words]):

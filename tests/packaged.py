@@ -330,10 +330,15 @@ class Packaged(Case):
         script = told["share/bash-completion/completions/rekhuso"] + COMPLETES
         for words, wanted in (
             (["pl"], "plan"),
-            (["h"], "hold history"),
+            (["h"], "hold history help"),
             (["--program", "x", "plan", "--de"], "--deviation"),
             (["df", "--de"], ""),
             (["whatif", "--each", ""], ""),
+            (["whatif", "--out", str(TOP / "exampl")], ""),
+            (["import", "--out", str(TOP / "exampl")], str(TOP / "examples")),
+            (["hold", "--to", str(TOP / "LICEN")], str(TOP / "LICENSE")),
+            (["help", "pl"], "plan"),
+            (["he"], "help"),
             (["plan", "--to", str(TOP / "exampl")], str(TOP / "examples")),
             (["df", str(TOP / "LICEN")], str(TOP / "LICENSE")),
             (["nothing", "--"], ""),

@@ -231,15 +231,16 @@ class PlanScripts(ToolCase):
         self.assertEqual(sets[-1], self.tools.sets(with_commands(value, whole)))
 
     def test_batches_that_cannot_be_written(self) -> None:
-        """A number that is none, a folder without a number and the other way, and --json beside them are errors of use;
-        a folder that has such files, or cannot be made, is told, and nothing is written into it."""
+        """A number that is none, a number without a folder, and --json beside them are errors of use; a script alone
+        goes into a file; a folder that has such files, or cannot be made, is told, and nothing is written into it."""
         files, _ = self.dumped("old pairs")
         for words in (
             ["--batch", "0", "--to", "x"],
             ["--batch", "-1", "--to", "x"],
             ["--batch", "some", "--to", "x"],
             ["--batch", "5"],
-            ["--to", "x"],
+            ["--status", "--to", "x"],
+            ["--json", "--to", "x"],
             ["--json", "--batch", "5", "--to", "x"],
             ["--json", "--undo"],
         ):
@@ -248,6 +249,8 @@ class PlanScripts(ToolCase):
                 self.assertEqual((status, output, len(error.splitlines())), (2, "", 1), (words, error))
                 self.assertIn("error: ", error, (words, error))
                 self.assertFalse((self.tools.folder / "x").exists(), (words, error))
+        self.assertEqual(self.output("plan", *files, "--to", "alone.sh"), "")
+        self.assertEqual((self.tools.folder / "alone.sh").read_text(), self.output("plan", *files))
         (self.tools.folder / "full").mkdir()
         self.tools.put("full/plan-007.sh", "")
         for folder, told in (

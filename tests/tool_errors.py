@@ -22,6 +22,8 @@ from tests.clusters import CLUSTERS, STOCK, copied
 from tests.tool_cases import AS_MONITOR, TOOLS, ToolCase, Tools
 
 SECONDS = 30
+# The commands that put scripts out, by the same words.
+PUTTING = ("plan", "hold", "release", "drain")
 
 # Each command that puts something out over the example's map.
 COMMANDS = [
@@ -291,6 +293,30 @@ class ToolErrors(ToolCase):
                 self.assertStarts(example, f"{command} ")
                 parser((command,)).parse_args(re.split(" [>|] ", example)[0].split())
         self.assertIn("\n\nComments above the commands", self.output("plan", "--help"))
+        self.assertEqual(self.output("help", "plan"), self.output("plan", "--help"))
+        self.assertEqual(self.output("help"), self.output("--help"))
+
+    def test_help_of_options(self) -> None:
+        """A use has at most eight rows on a terminal of 80 columns; each option stands in the group of what it does."""
+        for command in COMMAND_NAMES:
+            with self.subTest(command=command):
+                use = self.output(command, "--help").partition("\n\n")[0].splitlines()
+                self.assertLessEqual(sum(-(-len(line) // 80) for line in use), 8, use)
+        read, put = "options of what is read", "options of what is put out"
+        places = (
+            ("whatif", "--out", "options"),
+            ("hold", "--out", "options"),
+            ("import", "--out", put),
+            ("import", "--names", put),
+            ("df", "--names", read),
+            ("hold", "--at", read),
+            *((command, option, put) for command in PUTTING for option in ("--undo", "--batch", "--to", "--json")),
+        )
+        for command, option, title in places:
+            with self.subTest(command=command, option=option):
+                groups = re.split(r"(?m)^(options.*):$", self.output(command, "--help"))
+                found = [name for name, text in zip(groups[1::2], groups[2::2]) if f"\n  {option} " in text]
+                self.assertEqual(found, [title])
 
     def test_what_is_imported(self) -> None:
         """A command imports its own module and not those of other commands; a word that is none is told beside all

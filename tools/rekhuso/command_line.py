@@ -23,7 +23,7 @@ from typing import NoReturn
 
 from . import __version__
 from .commands import COMMANDS, EXAMPLES, module_of
-from .commands.arguments import Parser, group_options
+from .commands.arguments import Parser, reading
 from .faults import Fault, Misuse, Trouble
 from .progress import PROGRESS
 from .terminal import named_output, quiet_errors, shown
@@ -32,6 +32,11 @@ from .terminal import named_output, quiet_errors, shown
 ENDING = (signal.SIGTERM, signal.SIGHUP)
 # The status of a defect (`EX_SOFTWARE` of sysexits.h).
 DEFECT = 70
+
+
+def with_help(words: list[str]) -> list[str]:
+    """The words of a command line in which `help` and a command behind it stand for the command's own `--help`."""
+    return [*words[1:], "--help"] if words[:1] == ["help"] else words
 
 
 def asked_commands(words: list[str]) -> tuple[str, ...]:
@@ -53,7 +58,8 @@ def asked_commands(words: list[str]) -> tuple[str, ...]:
 
 def parser(asked: tuple[str, ...] = COMMANDS) -> argparse.ArgumentParser:
     """The command line: one parser with a subcommand for each module of the commands that are asked for."""
-    top = Parser(prog="rekhuso", description="Tools beside osdmapd, for people with a cluster.")
+    about = "Tools beside osdmapd, for people with a cluster. `rekhuso help COMMAND` tells the use of each."
+    top = Parser(prog="rekhuso", description=about)
     top.add_argument("--version", action="version", version=f"rekhuso {__version__}")
     about = "the built program (else that which REKHUSO_PROGRAM names, that of this repository, or of PATH)"
     top.add_argument("--program", type=pathlib.Path, help=about)
@@ -62,8 +68,7 @@ def parser(asked: tuple[str, ...] = COMMANDS) -> argparse.ArgumentParser:
         module_of(command).add_to(commands)
     for command, own in commands.choices.items():
         own.epilog = f"for example:\n\n    rekhuso {EXAMPLES[command]}"
-        own.add_argument("--program", type=pathlib.Path, default=argparse.SUPPRESS, help=about)
-        group_options(own)
+        reading(own).add_argument("--program", type=pathlib.Path, default=argparse.SUPPRESS, help=about)
     return top
 
 
@@ -145,7 +150,8 @@ def set_signals() -> None:
 def run() -> int:
     """Does what the words of the command line ask for, and tells the status. Faults and OSError go on to who asked."""
     try:
-        options = parser(asked_commands(sys.argv[1:])).parse_args()
+        words = with_help(sys.argv[1:])
+        options = parser(asked_commands(words)).parse_args(words)
         if sys.stderr.isatty() and options.command != "shell" and os.environ.get("TERM") != "dumb":
             PROGRESS.begin(options.command)
         status = int(options.work(options) or 0)

@@ -8,7 +8,7 @@ from .uses import Option, Use, options_in, top, uses
 
 BASH = """# What bash completes behind rekhuso; made of its own options.
 _rekhuso() {
-    local word=${COMP_WORDS[COMP_CWORD]} before=${COMP_WORDS[COMP_CWORD-1]} command= options= at
+    local word=${COMP_WORDS[COMP_CWORD]} before=${COMP_WORDS[COMP_CWORD-1]} command= options= folders= words= at
     for ((at = 1; at < COMP_CWORD; at++)); do
         case ${COMP_WORDS[at]} in
             --program) ((at++)) ;;
@@ -17,16 +17,19 @@ _rekhuso() {
         esac
     done
     COMPREPLY=()
-    case $before in
-        %(folders)s) mapfile -t COMPREPLY < <(compgen -d -- "$word"); return ;;
-        %(words)s) return ;;
-    esac
     case $command in
         '') options='%(top)s' ;;
+        help) options='%(names)s' ;;
 %(commands)s
         *) return ;;
     esac
-    if [[ -z $command || $word == -* ]]; then
+    case " $folders " in
+        *" $before "*) mapfile -t COMPREPLY < <(compgen -d -- "$word"); return ;;
+    esac
+    case " $words " in
+        *" $before "*) return ;;
+    esac
+    if [[ $before != --program && ( -z $command || $command == help || $word == -* ) ]]; then
         mapfile -t COMPREPLY < <(compgen -W "$options" -- "$word")
     else
         mapfile -t COMPREPLY < <(compgen -f -- "$word")
@@ -56,6 +59,10 @@ _rekhuso "$@"
 """
 
 
+# What stands behind an option that is the path of a file.
+FILES = frozenset(["FILE", "PGS", "OSD_DUMP", "PROGRAM", "SCRIPT", "REPORT"])
+
+
 def is_folder(option: Option) -> bool:
     """Whether a folder stands behind an option."""
     return option.values == ("FOLDER",)
@@ -63,33 +70,34 @@ def is_folder(option: Option) -> bool:
 
 def is_file(option: Option) -> bool:
     """Whether a file stands behind an option."""
-    return bool(option.values) and any(
-        word in ("FILE", "PGS", "OSD_DUMP", "PROGRAM", "SCRIPT") for word in option.values
-    )
+    return any(not FILES.isdisjoint(value.split("|")) for value in option.values)
 
 
-def words_of(options: list[Option]) -> list[str]:
+def words_of(options: list[Option]) -> str:
     """The words of options, sorted."""
-    return sorted({word for option in options for word in option.words})
+    return " ".join(sorted({word for option in options for word in option.words}))
+
+
+def bash_case(use: Use) -> str:
+    """What bash knows of a command: its options, those behind which a folder stands, and those behind which a word does
+    that is no path.
+    """
+    options = options_in(use.parser)
+    folders = [own for own in options if is_folder(own)]
+    named = [own for own in options if own.values and not is_folder(own) and not is_file(own)]
+    return (
+        f"        {use.name}) options='{words_of(options)}' folders='{words_of(folders)}' words='{words_of(named)}' ;;"
+    )
 
 
 def bash() -> str:
     """What bash reads."""
     commands = uses()
-    every = [option for use in commands for option in options_in(use.parser)]
-    named = [option for option in every if option.values and not is_folder(option) and not is_file(option)]
-    folders, of_files = words_of([own for own in every if is_folder(own)]), words_of(
-        [own for own in every if is_file(own)]
-    )
-    # A word that is of a folder or a file in one command and of another thing in a second one completes files.
-    words = [word for word in words_of(named) if word not in folders and word not in of_files]
+    names = " ".join(use.name for use in commands)
     return BASH % {
-        "folders": "|".join(folders),
-        "words": "|".join(words),
-        "top": " ".join([*(use.name for use in commands), *words_of(options_in(top()))]),
-        "commands": "\n".join(
-            f"        {use.name}) options='{' '.join(words_of(options_in(use.parser)))}' ;;" for use in commands
-        ),
+        "top": f"{names} help {words_of(options_in(top()))}",
+        "names": names,
+        "commands": "\n".join(map(bash_case, commands)),
     }
 
 
@@ -121,11 +129,16 @@ def zsh_case(use: Use) -> str:
     return f"                {use.name})\n                    _arguments \\\n{lines} ;;"
 
 
+def told_names(commands: list[Use]) -> list[tuple[str, str]]:
+    """Each command with what it does, and the word for help."""
+    return [*((use.name, use.about) for use in commands), ("help", "tells the use of a command")]
+
+
 def zsh() -> str:
     """What zsh reads."""
     commands = uses()
     return ZSH % {
         "top": " ".join(zsh_options(top())),
-        "names": "\n".join(f"                '{use.name}:{quoted(use.about)}'" for use in commands),
+        "names": "\n".join(f"                '{name}:{quoted(about)}'" for name, about in told_names(commands)),
         "commands": "\n".join(map(zsh_case, commands)),
     }

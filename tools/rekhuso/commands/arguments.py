@@ -45,6 +45,9 @@ class Parser(argparse.ArgumentParser):
         super().__init__(**forms)
         self.allow_abbrev, self.formatter_class = False, Paragraphs
         self.repeated: frozenset[str] = frozenset()
+        # Options stand in the group in which they are added; all others are of the command itself.
+        self.of_reading = self.add_argument_group("options of what is read")
+        self.of_output = self.add_argument_group("options of what is put out")
 
     def error(self, message: str) -> NoReturn:
         """Ends the command with status 2 and a line on standard error."""
@@ -75,47 +78,18 @@ def repeated_words(words: list[str], options: frozenset[str]) -> list[str]:
     return found
 
 
-# The groups of options in a help: their titles, and the options of each; all others are of the command itself.
-GROUPS = {
-    "of what is read": (
-        "--names",
-        "--tree",
-        "--pools",
-        "--unmatched",
-        "--df",
-        "--pgs",
-        "--osds",
-        "--keep",
-        "--program",
-    ),
-    "of what is put out": (
-        "--json",
-        "--status",
-        "--prometheus",
-        "--ceph",
-        "--picture",
-        "--out",
-        "--undo",
-        "--batch",
-        "--osd-most",
-        "--host-most",
-        "--to",
-        "--no-guard",
-    ),
-}
+def reading(own: argparse.ArgumentParser) -> argparse._ActionsContainer:
+    """Where the options of what a command reads stand in its help."""
+    return own.of_reading if isinstance(own, Parser) else own
 
 
-def group_options(own: argparse.ArgumentParser) -> None:
-    """Has the help of a command tell its options by groups."""
-    for title, names in GROUPS.items():
-        actions = [action for action in own._actions if action.option_strings and action.option_strings[0] in names]
-        if actions:
-            group = own.add_argument_group(f"options {title}")
-            for action in actions:
-                own._optionals._group_actions.remove(action)
-                group._group_actions.append(action)
+def putting(own: argparse.ArgumentParser) -> argparse._ActionsContainer:
+    """Where the options of what a command puts out stand in its help."""
+    return own.of_output if isinstance(own, Parser) else own
 
 
+# What stands in a use for the options, which the help tells one by one.
+MORE = "[OPTION ..]"
 FILES = "MAP | OSD_DUMP CRUSH_DUMP | REPORT"
 ABOUT_FILES = (
     "a map, as `import` writes it (- is standard input); or the two dumps of a cluster, what `ceph osd dump -f json` "
@@ -158,11 +132,8 @@ class Dumps(Files):
 
 def usage(*words: str) -> str:
     """The use of a command with its own words, a line for each form: over a map, and over two dumps."""
-    own = " ".join([*words, "[--names FILE]"])
-    return (
-        f"%(prog)s MAP {own}\n       %(prog)s OSD_DUMP CRUSH_DUMP {own} [--pools ID|NAME,..] [--tree FILE] "
-        f"[--unmatched]"
-    )
+    own = " ".join([*words, MORE])
+    return f"%(prog)s MAP {own}\n       %(prog)s OSD_DUMP CRUSH_DUMP {own}"
 
 
 def add_map_files(own: argparse.ArgumentParser) -> None:
@@ -170,16 +141,21 @@ def add_map_files(own: argparse.ArgumentParser) -> None:
     own.add_argument("files", metavar=FILES, nargs="+", action=Files, help=ABOUT_FILES)
 
 
-def add_files(own: argparse.ArgumentParser, *words: str) -> None:
-    """The same, and the options for dumps and names; the words are the command's own ones in its use."""
-    own.usage = usage(*words)
+def add_files(own: argparse.ArgumentParser) -> None:
+    """The same, and the options for dumps and names."""
+    own.usage = usage()
     add_map_files(own)
     add_names(own)
 
 
+def add_names_file(own: argparse.ArgumentParser) -> None:
+    """The option for names."""
+    reading(own).add_argument("--names", metavar="FILE", help="names, as `import --names` wrote them")
+
+
 def add_names(own: argparse.ArgumentParser) -> None:
     """The options for names and for dumps."""
-    own.add_argument("--names", metavar="FILE", help="names, as `import --names` wrote them")
+    add_names_file(own)
     add_dump_options(own)
 
 
@@ -188,29 +164,30 @@ UNMATCHED = "take OSDs that only one of the dumps has as out, and tell which"
 
 def add_dump_options(own: argparse.ArgumentParser) -> None:
     """The options of a command that takes dumps."""
-    own.add_argument("--unmatched", action="store_true", help=UNMATCHED)
-    own.add_argument(
+    group = reading(own)
+    group.add_argument("--unmatched", action="store_true", help=UNMATCHED)
+    group.add_argument(
         "--tree",
         metavar="FILE",
         help="what `ceph osd tree -f json` prints: the reweights of OSDs that were removed and stand in CRUSH",
     )
-    own.add_argument("--pools", metavar="ID|NAME,..", help="only these pools")
+    group.add_argument("--pools", metavar="ID|NAME,..", help="only these pools")
 
 
 def add_osds(own: argparse.ArgumentParser) -> None:
     """The option for the disks of OSDs."""
-    own.add_argument("--osds", metavar="FILE", help="what `ceph osd df -f json` prints: tell the disks too")
+    reading(own).add_argument("--osds", metavar="FILE", help="what `ceph osd df -f json` prints: tell the disks too")
 
 
 def add_json(own: argparse.ArgumentParser) -> None:
     """The option for JSON."""
-    own.add_argument("--json", action="store_true", help="tell all of it as one JSON object")
+    putting(own).add_argument("--json", action="store_true", help="tell all of it as one JSON object")
 
 
 def add_guard(own: argparse.ArgumentParser) -> None:
     """The option for scripts without guards."""
     about = "leave out the lines by which a script ends, with nothing done, where the cluster is not as in the dumps"
-    own.add_argument("--no-guard", action="store_true", help=about)
+    putting(own).add_argument("--no-guard", action="store_true", help=about)
 
 
 def source_of(arguments: Arguments, paths: Sequence[str] | None = None) -> Source:

@@ -36,15 +36,6 @@ CHANGE_PARTS = frozenset(
         *("old_upmap", "old_items", "new_upmap", "new_items"),
     ]
 )
-# How they stand in the use of a command.
-USE = [
-    *(f"[--{word} OSD|BUCKET ..].." for word in ("out", "in", "down", "up")),
-    "[--reweight OSD|BUCKET W]..",
-    "[--weight OSD|BUCKET=W]..",
-    "[--add-host NAME WEIGHTS [--under BUCKET] [--class CLASS]]",
-    "[--crush FILE]",
-    "[--pool NAME rule=|size=|pg_num=,pgp_num=]..",
-]
 
 
 @dataclass(frozen=True, **SLOTS)

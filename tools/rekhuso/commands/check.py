@@ -22,7 +22,7 @@ from ..program.map_forms import Defect, REFUSALS
 from ..program.maps import Program, needs_stock
 from ..program.questions import answers_of, raw_answers
 from ..values import SLOTS
-from .arguments import Arguments, Commands, add_json, set_work
+from .arguments import Arguments, Commands, add_json, add_names_file, set_work
 from .whatif_words import is_change_text
 
 OWNERS = re.compile(r"(buckets|osds|pools|rules)\[([0-9]+)\]")
@@ -151,6 +151,6 @@ def add_to(commands: Commands) -> None:
     own = commands.add_parser("check", help="whether a map or a change is lawful, and where not", description=__doc__)
     own.add_argument("map", metavar="MAP", help="a map, as `import` writes it; - is standard input")
     own.add_argument("change", metavar="CHANGE", nargs="?", help="a change as JSON, or a file with one")
-    own.add_argument("--names", metavar="FILE", help="names, as `import --names` wrote them")
+    add_names_file(own)
     add_json(own)
     set_work(own, options_of, work)

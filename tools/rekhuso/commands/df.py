@@ -29,7 +29,7 @@ from ..output.metrics import metrics
 from ..program.answers import Up
 from ..values import SLOTS
 from ..words import counted
-from .arguments import Arguments, Commands, add_files, add_json, add_osds, set_work, source_of
+from .arguments import Arguments, Commands, add_files, add_json, add_osds, putting, set_work, source_of
 
 
 def pool_line(pool: PoolRowParts, names: Names, unrest: Mapping[int, Unrest]) -> str:
@@ -107,9 +107,9 @@ def work(options: DfOptions) -> None:
 def add_to(commands: Commands) -> None:
     """The subcommand."""
     own = commands.add_parser("df", help="the tree with the groups of each OSD", description=__doc__)
-    add_files(own, "[--osds FILE]", "[--prometheus FILE]", "[--json]")
+    add_files(own)
     add_osds(own)
-    own.add_argument(
+    putting(own).add_argument(
         "--prometheus",
         metavar="FILE",
         help="write groups, deviations and ratios of OSDs and pools into FILE too, in Prometheus' text format",

@@ -24,7 +24,7 @@ from ..program.maps import Change, Map, groups_of, needs_stock, written
 from ..program.questions import raw_answers
 from ..values import SLOTS
 from ..words import counted
-from .arguments import Arguments, Commands, Files, add_json, add_names, set_work, source_of
+from .arguments import MORE, Arguments, Commands, Files, add_json, add_names, set_work, source_of
 
 DIFF_FILES = "OLD_MAP NEW_MAP | OLD_OSD_DUMP OLD_CRUSH_DUMP NEW_OSD_DUMP NEW_CRUSH_DUMP"
 
@@ -105,9 +105,8 @@ def add_to(commands: Commands) -> None:
     """The subcommand."""
     own = commands.add_parser("diff", help="what differs between two maps", description=__doc__)
     own.usage = (
-        "%(prog)s OLD_MAP NEW_MAP [--names FILE] [--json]\n"
-        "       %(prog)s OLD_OSD_DUMP OLD_CRUSH_DUMP NEW_OSD_DUMP NEW_CRUSH_DUMP [--names FILE] [--json] "
-        "[--pools ID|NAME,..] [--tree FILE] [--unmatched]"
+        f"%(prog)s OLD_MAP NEW_MAP {MORE}\n"
+        f"       %(prog)s OLD_OSD_DUMP OLD_CRUSH_DUMP NEW_OSD_DUMP NEW_CRUSH_DUMP {MORE}"
     )
     own.add_argument(
         "files",

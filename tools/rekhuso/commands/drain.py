@@ -42,17 +42,15 @@ from ..plans.hold_checks import check_still, moving_words
 from ..plans.movement import place_bytes
 from ..program.maps import Program
 from ..values import SLOTS
-from .arguments import Arguments, Commands, add_dump_options, add_guard, add_json, set_work, source_of
-from .part_words import PartWords, add_part_words, part_words
-from .plan import commands_a_file
+from .arguments import MORE, Arguments, Commands, add_dump_options, set_work, source_of
+from .put_words import PutWords, add_put_words, put_words
 from .whatif_words import IN_FORCE, osds_named
 
 
 @dataclass(frozen=True, **SLOTS)
 class DrainOptions:
     """The dumps of the cluster; the words that name what is drained; whether places keep their device class; whether
-    groups go to where a plan has them; whether a cluster that moves is drained too; and how it is put out: as the way
-    back, how large its parts are, in files of a folder, as JSON, or without guards.
+    groups go to where a plan has them; whether a cluster that moves is drained too; and how it is put out.
     """
 
     source: Source
@@ -60,11 +58,7 @@ class DrainOptions:
     is_kept: bool
     is_even: bool
     is_anyway: bool
-    is_undo: bool
-    parts: PartWords
-    to: str | None
-    is_json: bool
-    is_guarded: bool
+    output: PutWords
 
 
 def options_of(arguments: Arguments) -> DrainOptions:
@@ -73,18 +67,19 @@ def options_of(arguments: Arguments) -> DrainOptions:
     own.words = [*with_both(own.words[:1]), *own.words[1:]]
     if len(own.words) < 3:
         raise Misuse("drain takes the two dumps of a cluster, and the OSDs or buckets behind them")
-    if own.batch is not None and own.to is None and not own.json:
-        raise Misuse("--batch goes with --to: files of so many commands, and their folder")
-    if own.json and (own.to is not None or own.undo):
-        raise Misuse("--json tells the scripts and their undoing at once: --to and --undo do not go with it")
+    output = put_words(own, True, own.to is not None or own.json or own.undo, "--to")
     words = tuple(part for word in own.words[2:] for part in word.split(","))
     twice = next((word for at, word in enumerate(words) if word in words[:at]), None)
     if twice is not None:
         raise Misuse(f"{twice} is named twice")
-    source = source_of(own, own.words[:2])
-    parts = part_words(own, own.to is not None or own.json or own.undo, "--to")
-    forms = own.keep_class, own.even, own.anyway, own.undo, parts, own.to, own.json, not own.no_guard
-    return DrainOptions(source, words, *forms)
+    return DrainOptions(
+        source=source_of(own, own.words[:2]),
+        words=words,
+        is_kept=own.keep_class,
+        is_even=own.even,
+        is_anyway=own.anyway,
+        output=output,
+    )
 
 
 def osds_of(view: ClusterView, words: tuple[str, ...]) -> list[int]:
@@ -108,7 +103,7 @@ def drained(options: DrainOptions) -> tuple[Drain, Cluster]:
     check_still(moving_words(cluster, program), options.is_anyway, "drained")
     view = ClusterView(found.maps, cluster.all_names(), found)
     osds = osds_of(view, options.words)
-    wish = DrainWish(osds, options.is_kept, options.is_even, options.parts.size(cluster))
+    wish = DrainWish(osds, options.is_kept, options.is_even, options.output.parts.size(cluster))
     return drain_of(cluster, wish, program), cluster
 
 
@@ -157,27 +152,24 @@ def work(options: DrainOptions) -> None:
     """Tells how OSDs are drained."""
     found, cluster = drained(options)
     source = options.source
-    origin = origin_of(source.program, [*source.paths, source.tree], cluster, options.is_guarded)
+    origin = origin_of(source.program, [*source.paths, source.tree], cluster, options.output.is_guarded)
     files, back = files_of(found, cluster, source.program, origin), undo_script(found, origin.later(None))
     found.undo.check(back, KEEPING)
     print("\n".join(drain_lines(found, cluster.all_names())), file=sys.stderr)
-    if options.is_json:
+    if options.output.is_json:
         put_drain_json(found, origin)
         return
-    word, files = ("undo", {part_file("undo", 1, 1): back}) if options.is_undo else (WORD, files)
-    if options.to is None:
+    word, files = ("undo", {part_file("undo", 1, 1): back}) if options.output.is_undo else (WORD, files)
+    if options.output.to is None:
         print("".join(files.values()), end="")
     else:
-        put_scripts(options.to, word, files)
+        put_scripts(options.output.to, word, files)
 
 
 def add_to(commands_of: Commands) -> None:
     """The subcommand."""
     own = commands_of.add_parser("drain", help="drains OSDs or hosts, part by part", description=__doc__)
-    own.usage = (
-        "%(prog)s OSD_DUMP CRUSH_DUMP OSD|BUCKET.. [--to FOLDER [--batch N] [--osd-most M] [--host-most M]] [--even] "
-        "[--keep-class] [--anyway] [--undo] [--no-guard] [--json] [--pools ID|NAME,..] [--tree FILE] [--unmatched]"
-    )
+    own.usage = f"%(prog)s OSD_DUMP CRUSH_DUMP OSD|BUCKET.. [--to FOLDER [--batch N]] {MORE}"
     own.add_argument(
         "words",
         metavar="OSD_DUMP CRUSH_DUMP OSD|BUCKET",
@@ -188,14 +180,8 @@ def add_to(commands_of: Commands) -> None:
     own.add_argument("--even", action="store_true", help="to where `plan` of the cluster without them has the groups")
     own.add_argument("--keep-class", action="store_true", help="each place stays on OSDs of its device class")
     own.add_argument("--anyway", action="store_true", help="also where the cluster moves already, or amid an outage")
-    own.add_argument("--undo", action="store_true", help="the way back to the dumps, whichever script was run")
-    own.add_argument("--batch", metavar="N", type=commands_a_file, help="parts of at most N commands each")
-    own.add_argument(
-        "--to", metavar="FOLDER", help="the folder of the scripts: drain-000.sh, drain-001.sh, .. and drain-end.sh"
-    )
-    add_part_words(own)
+    to = "the folder of the scripts: drain-000.sh, drain-001.sh, .. and drain-end.sh"
+    add_put_words(own, "the way back to the dumps, whichever script was run", to, True)
     add_dump_options(own)
-    add_guard(own)
-    add_json(own)
     own.set_defaults(names=None)
     set_work(own, options_of, work)

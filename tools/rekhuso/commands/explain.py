@@ -240,7 +240,7 @@ def work(options: ExplainOptions) -> None:
 def add_to(commands: Commands) -> None:
     """The subcommand."""
     own = commands.add_parser("explain", help="why a group is where it is", description=__doc__)
-    own.usage = usage("PG", "[--json]")
+    own.usage = usage("PG")
     add_map_files(own)
     own.add_argument("group", metavar="PG", type=group_word, help="the group, as 1.1f")
     add_names(own)

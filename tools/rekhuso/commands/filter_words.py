@@ -15,8 +15,6 @@ from ..values import SLOTS
 from .arguments import Arguments
 from .whatif_words import osds_named
 
-FILTERS = "[--osd OSD,..] [--host BUCKET,..] [--of-class CLASS,..] [--of-pool ID|NAME,..] [--pg PG,..]"
-
 
 @dataclass(frozen=True, **SLOTS)
 class FilterWords:

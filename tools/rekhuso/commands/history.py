@@ -20,7 +20,7 @@ from ..output.json_output import put_json
 from ..program.maps import Program
 from ..program.stores import StoredJournal, journal_in, map_at
 from ..values import SLOTS
-from .arguments import Arguments, Commands, add_json, set_work
+from .arguments import Arguments, Commands, add_json, add_names_file, set_work
 
 
 @dataclass(frozen=True, **SLOTS)
@@ -83,6 +83,6 @@ def add_to(commands: Commands) -> None:
     own = commands.add_parser("history", help="what changed in a store, epoch by epoch", description=__doc__)
     own.add_argument("store", metavar="STORE", help="the file in which osdmapstore keeps a map and its changes")
     own.add_argument("--at", metavar="EPOCH", type=epoch_number, help="instead: the map of this epoch")
-    own.add_argument("--names", metavar="FILE", help="names, as `import --names` wrote them")
+    add_names_file(own)
     add_json(own)
     set_work(own, options_of, work)

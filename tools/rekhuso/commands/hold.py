@@ -24,23 +24,20 @@ from ..cluster.sources import Source
 from ..cluster.unrest import growth_words
 from ..cluster.view import ClusterView, sets_in
 from ..faults import Fault, Misuse
-from ..files import put
 from ..output.hold_heads import HoldChange, head_of
 from ..output.hold_words import ROUND, hold_lines, hold_script, idle_lines
 from ..output.json_output import put_json
 from ..output.origins import Origin, origin_of
-from ..output.plan_scripts import put_batches
 from ..output.prepare_words import BEFORE_WORD, prepare_lines, prepare_scripts
 from ..plans.hold import Hold, Sides, counts_in, hold_of, mapped_sets, sides_of_change
 from ..plans.hold_checks import check_counts, check_sides, check_still, check_torn, moving_words, told_words
 from ..plans.prepare import prepare_of
 from ..values import SLOTS
-from .arguments import Arguments, Commands, add_dump_options, add_guard, add_json, set_work, source_of
-from .change_words import USE, ChangeWords, add_change_words, change_words, files_and_change
-from .filter_words import FILTERS, FilterWords, add_filter_words, filter_words
+from .arguments import MORE, Arguments, Commands, add_dump_options, reading, set_work, source_of
+from .change_words import ChangeWords, add_change_words, change_words, files_and_change
+from .filter_words import FilterWords, add_filter_words, filter_words
 from .hold_instead import Tried, instead_of
-from .part_words import PartWords, add_part_words, part_words
-from .plan import commands_a_file
+from .put_words import PutWords, add_put_words, file_or_folder, put_words
 
 FORMS = "OSD_DUMP CRUSH_DUMP [CHANGE] | OLD_OSD_DUMP OLD_CRUSH_DUMP NEW_OSD_DUMP NEW_CRUSH_DUMP"
 
@@ -48,9 +45,8 @@ FORMS = "OSD_DUMP CRUSH_DUMP [CHANGE] | OLD_OSD_DUMP OLD_CRUSH_DUMP NEW_OSD_DUMP
 @dataclass(frozen=True, **SLOTS)
 class HoldOptions:
     """The dumps before the change, and those behind it where they are given; the words of the change; the file that
-    tells where the data is, if there is one; whether a cluster that moves is held too; and how it is put out: as the
-    way back, in files of so many commands in a folder, as JSON, or without guards; which groups are held; and whether
-    it is told what goes before the change, in which parts.
+    tells where the data is, if there is one; whether a cluster that moves is held too; how it is put out; which groups
+    are held; and whether it is told what goes before the change.
     """
 
     old: Source
@@ -58,14 +54,9 @@ class HoldOptions:
     asked: ChangeWords
     at: str | None
     is_anyway: bool
-    is_undo: bool
-    batch: int | None
-    to: str | None
-    is_json: bool
-    is_guarded: bool
+    output: PutWords
     chosen: FilterWords
     is_before: bool
-    parts: PartWords
 
     @property
     def is_made(self) -> bool:
@@ -91,10 +82,7 @@ def options_of(arguments: Arguments) -> HoldOptions:
     own = arguments
     files, change = files_and_change(own.words)
     asked = change_words(own, change)
-    if own.batch is not None and own.to is None:
-        raise Misuse("--batch and --to go together: files of so many commands, and their folder")
-    if own.json and (own.batch is not None or own.to is not None or own.undo):
-        raise Misuse("--json tells the commands and their undoing at once: --batch, --to and --undo do not go with it")
+    output = put_words(own, False, own.prepare and own.batch is not None, "--prepare and --batch")
     if len(files) not in (2, 4):
         raise Misuse("hold takes the two dumps of today and a change, or those before and behind it")
     if len(files) == 4 or own.at is not None:
@@ -103,10 +91,16 @@ def options_of(arguments: Arguments) -> HoldOptions:
             raise Misuse(f"{given[0]} does not go with {'four dumps' if len(files) == 4 else '--at'}")
     elif not asked.given():
         raise Misuse("nothing is changed: give CHANGE, an option as --crush, the dumps behind it, or --at")
-    old, new = source_of(own, files[:2]), source_of(own, files[2:]) if len(files) == 4 else None
-    forms = own.anyway, own.undo, own.batch, own.to, own.json, not own.no_guard
-    parts = part_words(own, own.prepare and own.batch is not None, "--prepare and --batch")
-    found = HoldOptions(old, new, asked, own.at, *forms, filter_words(own), own.prepare, parts)
+    found = HoldOptions(
+        old=source_of(own, files[:2]),
+        new=source_of(own, files[2:]) if len(files) == 4 else None,
+        asked=asked,
+        at=own.at,
+        is_anyway=own.anyway,
+        output=output,
+        chosen=filter_words(own),
+        is_before=own.prepare,
+    )
     check_before(found)
     return found
 
@@ -116,9 +110,9 @@ def check_before(options: HoldOptions) -> None:
     over.
     """
     chosen = [own for own in astuple(options.chosen) if own is not None]
-    if options.is_before and (options.is_made or options.is_json or chosen):
+    if options.is_before and (options.is_made or options.output.is_json or chosen):
         raise Misuse("--prepare goes before a change that is still to come, for all groups, and is put out as scripts")
-    if options.is_before and options.to is not None and options.batch is None:
+    if options.is_before and options.output.to is not None and not options.output.is_parted:
         raise Misuse("--prepare --to goes with --batch: files of so many commands, and their folder")
 
 
@@ -163,11 +157,12 @@ def sides_of(options: HoldOptions) -> tuple[Sides, frozenset[str]]:
 
 def scripts_of(sides: Sides, hold: Hold, options: HoldOptions, origin: Origin) -> list[str]:
     """The commands, or those that take them back, as one script or in parts; none where there are no commands."""
-    lines = hold.undo if options.is_undo else hold.commands
-    head = head_of(sides, hold, options.is_undo, options.change, origin)
-    size = options.batch or max(len(lines), 1)
+    output = options.output
+    lines = hold.undo if output.is_undo else hold.commands
+    head = head_of(sides, hold, output.is_undo, options.change, origin)
+    size = output.parts.batch or max(len(lines), 1)
     parts = [lines[at : at + size] for at in range(0, len(lines), size)]
-    if options.batch is None and options.to is not None:
+    if not output.is_parted and output.to is not None:
         # A file of no commands says that nothing is to be held, where an empty one says nothing.
         parts = parts or [[]]
     return [hold_script(hold, head, options.is_made, at + 1, parts) for at in range(len(parts))]
@@ -176,9 +171,9 @@ def scripts_of(sides: Sides, hold: Hold, options: HoldOptions, origin: Origin) -
 def check_printed(hold: Hold, scripts: list[str], options: HoldOptions) -> None:
     """Has the program judge what is to be put out. A fault where it is not what is told."""
     commands, undo, printed = "\n".join(hold.commands), "\n".join(hold.undo), hold.printed(options.old.program)
-    if options.is_json:
+    if options.output.is_json:
         printed.check_scripts([commands], [], [undo])
-    elif options.is_undo:
+    elif options.output.is_undo:
         printed.check_scripts([commands], [], scripts, ROUND)
     else:
         printed.check_scripts(scripts, [], [], ROUND)
@@ -187,18 +182,16 @@ def check_printed(hold: Hold, scripts: list[str], options: HoldOptions) -> None:
 def work_before(options: HoldOptions) -> None:
     """Tells what goes before the change, so that a hold then covers it."""
     cluster, steps = change_by_words(options)
-    found = prepare_of(cluster, steps, options.parts.size(cluster), options.old.program)
-    origin = origin_of(options.old.program, options.files(), cluster, options.is_guarded)
-    scripts = prepare_scripts(found, cluster.all_names(), options.is_undo, origin)
+    output = options.output
+    found = prepare_of(cluster, steps, output.parts.size(cluster), options.old.program)
+    origin = origin_of(options.old.program, options.files(), cluster, output.is_guarded)
+    scripts = prepare_scripts(found, cluster.all_names(), output.is_undo, origin)
     commands = ["\n".join(line for step in part for line in step.commands) for part in found.parts]
     found.printed.check_scripts(
-        *((commands, found.lengths, scripts) if options.is_undo else (scripts, found.lengths, []))
+        *((commands, found.lengths, scripts) if output.is_undo else (scripts, found.lengths, []))
     )
     print("\n".join(prepare_lines(found)), file=sys.stderr)
-    if options.to is None:
-        print("".join(scripts), end="")
-    else:
-        put_batches(options.to, "undo" if options.is_undo else BEFORE_WORD, scripts)
+    output.put(BEFORE_WORD, scripts)
 
 
 def tried_instead(options: HoldOptions) -> list[str]:
@@ -218,20 +211,16 @@ def work(options: HoldOptions) -> None:
         return
     sides, torn = sides_of(options)
     hold = hold_of(sides, options.old.program, replace(options.chosen.chosen(sides.new), passed=torn))
-    if hold.is_idle and not options.is_undo:
+    if hold.is_idle and not options.output.is_undo:
         raise Fault(*idle_lines(hold, tried_instead(options)))
-    origin = origin_of(options.old.program, options.files(), sides.new, options.is_guarded)
+    origin = origin_of(options.old.program, options.files(), sides.new, options.output.is_guarded)
     scripts = scripts_of(sides, hold, options, origin)
     check_printed(hold, scripts, options)
     print("\n".join(hold_lines(hold)), file=sys.stderr)
-    if options.is_json:
+    if options.output.is_json:
         put_json("hold", hold.epoch, **hold.told(), commands=hold.commands, undo=hold.undo, **origin.parts())
-    elif options.batch is None and options.to is not None:
-        put(options.to, "".join(scripts))
-    elif options.to is not None:
-        put_batches(options.to, "undo" if options.is_undo else "hold", scripts)
     else:
-        print("".join(scripts), end="")
+        options.output.put("hold", scripts)
 
 
 def add_to(commands_of: Commands) -> None:
@@ -239,14 +228,10 @@ def add_to(commands_of: Commands) -> None:
     own = commands_of.add_parser(
         "hold", help="exceptions that hold groups behind a change; with --at cancel backfill", description=__doc__
     )
-    more = " ".join(
-        ["[--anyway]", "[--undo]", "[--prepare]", "[--to FILE | --batch N --to FOLDER]", "[--no-guard]", "[--json]"]
-    )
-    dumps = f"{FILTERS} [--pools ID|NAME,..] [--tree FILE] [--unmatched]"
     own.usage = (
-        f"%(prog)s OSD_DUMP CRUSH_DUMP [CHANGE] {' '.join(USE)} {more} {dumps}\n"
-        f"       %(prog)s OLD_OSD_DUMP OLD_CRUSH_DUMP NEW_OSD_DUMP NEW_CRUSH_DUMP {more} {dumps}\n"
-        f"       %(prog)s --at PGS OSD_DUMP CRUSH_DUMP {more} {dumps}"
+        f"%(prog)s OSD_DUMP CRUSH_DUMP [CHANGE] [--crush FILE] [--to FILE] {MORE}\n"
+        f"       %(prog)s OLD_OSD_DUMP OLD_CRUSH_DUMP NEW_OSD_DUMP NEW_CRUSH_DUMP [--to FILE] {MORE}\n"
+        f"       %(prog)s --at PGS OSD_DUMP CRUSH_DUMP [--to FILE] {MORE}"
     )
     own.add_argument(
         "words",
@@ -256,26 +241,17 @@ def add_to(commands_of: Commands) -> None:
         "or both before the change and behind it",
     )
     add_change_words(own)
-    own.add_argument("--at", metavar="PGS", help="what `ceph pg dump -f json` prints: hold the data where it is by it")
+    about = "what `ceph pg dump -f json` prints: hold the data where it is by it"
+    reading(own).add_argument("--at", metavar="PGS", help=about)
     own.add_argument("--anyway", action="store_true", help="also where the cluster moves already, or is degraded")
-    own.add_argument("--undo", action="store_true", help="the commands that bring the exceptions of the dump back")
-    own.add_argument("--batch", metavar="N", type=commands_a_file, help="write files of at most N commands each")
-    own.add_argument(
-        "--to",
-        metavar="FILE|FOLDER",
-        help="the file of the script, written whole or not at all; with --batch the folder of hold-001.sh, .. or "
-        "undo-001.sh, ..",
-    )
+    add_put_words(own, "the commands that bring the exceptions of the dump back", file_or_folder("hold"))
     own.add_argument(
         "--prepare",
         action="store_true",
         help="what goes before the change: parts that bring the groups which a hold would leave to sets that both the "
         "rules of today and those behind the change allow",
     )
-    add_part_words(own)
     add_filter_words(own, "held")
     add_dump_options(own)
-    add_guard(own)
-    add_json(own)
     own.set_defaults(names=None)
     set_work(own, options_of, work)

@@ -33,7 +33,18 @@ from ..plans.hold_checks import check_still
 from ..program.maps import Program, written
 from ..values import SLOTS
 from ..words import counted
-from .arguments import ABOUT_DUMPS, DUMPS, Arguments, Commands, Dumps, add_dump_options, add_json, set_work
+from .arguments import (
+    ABOUT_DUMPS,
+    DUMPS,
+    Arguments,
+    Commands,
+    Dumps,
+    add_dump_options,
+    add_json,
+    putting,
+    reading,
+    set_work,
+)
 
 
 @dataclass(frozen=True, **SLOTS)
@@ -63,7 +74,16 @@ def options_of(arguments: Arguments) -> ImportOptions:
     if (own.pgs is not None or own.anyway) and not own.check:
         raise Misuse("--pgs and --anyway go with --check")
     dumps = DumpFiles(own.files[0], own.files[1], own.tree, own.pools, own.unmatched, own.program)
-    return ImportOptions(dumps, own.program, own.out, own.names, own.check, own.json, own.pgs, own.anyway)
+    return ImportOptions(
+        dumps=dumps,
+        program=own.program,
+        out=own.out,
+        names=own.names,
+        is_check=own.check,
+        is_json=own.json,
+        pgs=own.pgs,
+        is_anyway=own.anyway,
+    )
 
 
 def reasons_against(options: ImportOptions) -> tuple[Cluster, list[Advised]]:
@@ -176,17 +196,19 @@ def add_to(commands: Commands) -> None:
     """The subcommand."""
     own = commands.add_parser("import", help="a map of what Ceph's tools dump", description=__doc__)
     own.add_argument("files", metavar=DUMPS, nargs="+", action=Dumps, help=ABOUT_DUMPS)
-    own.add_argument("--out", metavar="FOLDER", help="write every map that the cluster takes into this folder")
+    read, written_to = reading(own), putting(own)
+    written_to.add_argument("--out", metavar="FOLDER", help="write every map that the cluster takes into this folder")
     own.add_argument(
         "--check", action="store_true", help="only tell whether the cluster comes in, and if not why, and what to do"
     )
-    own.add_argument(
+    read.add_argument(
         "--pgs", metavar="FILE", help="with --check: also whether groups lie where `ceph pg dump -f json` says"
     )
     own.add_argument(
         "--anyway", action="store_true", help="with --check --pgs: status 0 also where groups lie elsewhere"
     )
-    own.add_argument("--names", metavar="FILE", help="write the names of OSDs, buckets, pools and rules into this file")
+    about = "write the names of OSDs, buckets, pools and rules into this file"
+    written_to.add_argument("--names", metavar="FILE", help=about)
     add_dump_options(own)
     add_json(own)
     set_work(own, options_of, work)

@@ -20,7 +20,7 @@ from ..output.json_output import put_json
 from ..plans.pairs import settled
 from ..program.maps import Map, Program, written
 from ..values import SLOTS
-from .arguments import Arguments, Commands, add_json, set_work
+from .arguments import Arguments, Commands, add_json, putting, set_work
 
 
 @dataclass(frozen=True, **SLOTS)
@@ -58,6 +58,6 @@ def add_to(commands_of: Commands) -> None:
     """The subcommand."""
     own = commands_of.add_parser("net", help="the fewest pairs for the same sets", description=__doc__)
     own.add_argument("map", metavar="MAP", help="a map, as `import` writes it; - is standard input")
-    own.add_argument("--ceph", action="store_true", help="as Ceph's commands")
+    putting(own).add_argument("--ceph", action="store_true", help="as Ceph's commands")
     add_json(own)
     set_work(own, options_of, work)

@@ -34,7 +34,7 @@ from ..plans.carried import parts_of_plan
 from ..plans.next_step import NextStep, NextWish, Progress, next_step
 from ..plans.question import sets_of_maps
 from ..values import SLOTS
-from .arguments import Arguments, Commands, add_dump_options, add_json, set_work, source_of
+from .arguments import MORE, Arguments, Commands, add_dump_options, add_json, reading, set_work, source_of
 from .part_words import PartWords, add_part_words, number_of_moves
 
 
@@ -126,10 +126,9 @@ def work(options: NextOptions) -> int:
 def add_to(commands_of: Commands) -> None:
     """The subcommand."""
     own = commands_of.add_parser("next", help="the commands of a plan that may be given now", description=__doc__)
-    more = "[--most N] [--osd-most M] [--host-most M] [--json] [--pools ID|NAME,..] [--tree FILE] [--unmatched]"
     own.usage = (
-        f"%(prog)s OSD_DUMP CRUSH_DUMP SCRIPT|FOLDER|PLAN.json --pgs PGS {more}\n"
-        f"       %(prog)s --report REPORT SCRIPT|FOLDER|PLAN.json [--pgs PGS] {more}"
+        f"%(prog)s OSD_DUMP CRUSH_DUMP SCRIPT|FOLDER|PLAN.json --pgs PGS {MORE}\n"
+        f"       %(prog)s --report REPORT SCRIPT|FOLDER|PLAN.json [--pgs PGS] {MORE}"
     )
     own.add_argument(
         "words",
@@ -138,8 +137,8 @@ def add_to(commands_of: Commands) -> None:
         help="what `ceph osd dump -f json` and `ceph osd crush dump` print now, and the plan: a script, a folder of "
         "scripts, or what a command has told by --json",
     )
-    own.add_argument("--report", metavar="REPORT", help="what `ceph report` prints, in place of the dumps")
-    own.add_argument("--pgs", metavar="PGS", help="what `ceph pg dump -f json` prints: where the data is")
+    reading(own).add_argument("--report", metavar="REPORT", help="what `ceph report` prints, in place of the dumps")
+    reading(own).add_argument("--pgs", metavar="PGS", help="what `ceph pg dump -f json` prints: where the data is")
     own.add_argument(
         "--most", metavar="N", type=number_of_moves, help="at most N places are under way in the whole cluster"
     )

@@ -12,7 +12,7 @@ from ..faults import Misuse
 from ..plans.busy import ALL, MostBusy, PartSize, holders_in
 from ..program.maps import Map
 from ..values import SLOTS
-from .arguments import Arguments
+from .arguments import Arguments, putting
 
 # A number of moves that nobody comes near.
 MANY = 2**31
@@ -57,11 +57,12 @@ def number_of_moves(word: str) -> int:
 
 def add_part_words(own: argparse.ArgumentParser) -> None:
     """The options for OSDs and hosts."""
-    own.add_argument(
+    group = putting(own)
+    group.add_argument(
         "--osd-most",
         metavar="M",
         type=number_of_moves,
         help="in a part no OSD takes part in more than M moves: as the one from which a group is read, and as each to "
         "which a place comes",
     )
-    own.add_argument("--host-most", metavar="M", type=number_of_moves, help="the same of hosts")
+    group.add_argument("--host-most", metavar="M", type=number_of_moves, help="the same of hosts")

@@ -46,7 +46,7 @@ from ..cluster.view import ClusterView, as_in_ceph, has_other_weights, no_plan_w
 from ..faults import Fault, Misuse
 from ..output.json_output import put_json
 from ..output.origins import Origin, origin_of, origin_of_map
-from ..output.plan_scripts import Script, WATCH, balancer_words, client_words, part_file, put_batches
+from ..output.plan_scripts import Script, WATCH, balancer_words, client_words, part_file
 from ..output.plan_states import reasons_of, state_line, state_of
 from ..output.plan_words import plan_lines, quiet_words, refusal_words
 from ..plans.after_plan import quiet_deviation, rested_after
@@ -61,9 +61,9 @@ from ..plans.steps import steps_by_pool
 from ..program.maps import Map, Program, altered
 from ..progress import doing
 from ..values import SLOTS
-from .arguments import Arguments, Commands, add_files, add_guard, add_json, set_work, source_of
+from .arguments import Arguments, Commands, add_files, putting, reading, set_work, source_of
 from .filter_words import osds_of_classes
-from .part_words import PartWords, add_part_words, part_words
+from .put_words import PutWords, add_put_words, commands_a_file, file_or_folder, put_words
 
 # What is told above a plan of its other forms.
 PARTS = "parts:  the same words with --batch N --to FOLDER write files of N commands each, with what each moves"
@@ -119,8 +119,8 @@ class Held:
 class PlanOptions:
     """What is planned over, and how: which pools, by their names or by the device classes of their OSDs, at most how
     many commands, how near to the shares, whether each pool by itself, whether for room alone, whether by weights
-    alone, whether amid an outage too, and by which file of data; and how it is put out: as the way back, in files of so
-    many commands in a folder, as JSON, only which of three it is, or without guards.
+    alone, whether amid an outage too, and by which file of data; how it is put out; and whether only that is told,
+    which of three it is.
     """
 
     source: Source
@@ -133,12 +133,8 @@ class PlanOptions:
     is_by_weight: bool
     is_anyway: bool
     data: DataFiles
-    is_undo: bool
-    parts: PartWords
-    to: str | None
-    is_json: bool
+    output: PutWords
     is_state: bool
-    is_guarded: bool
 
     def files(self) -> list[str | None]:
         """All files that a plan goes by."""
@@ -149,12 +145,9 @@ class PlanOptions:
 def options_of(arguments: Arguments) -> PlanOptions:
     """The options of the command line. An error of use for options of which one would be passed over."""
     own = arguments
-    if (own.batch is None) != (own.to is None):
-        raise Misuse("--batch and --to go together: files of so many commands, and their folder")
-    if own.json and (own.batch is not None or own.undo):
-        raise Misuse("--json tells the plan and its undoing at once: --batch and --undo do not go with it")
-    if own.status and (own.json or own.batch is not None or own.undo):
-        raise Misuse("--status tells the state alone: --json, which has it, --batch and --undo do not go with it")
+    output = put_words(own, False, own.batch is not None, "--batch")
+    if own.status and (own.json or own.to is not None or own.undo):
+        raise Misuse("--status tells the state alone: --json, which has it, --to and --undo do not go with it")
     if own.deviation is not None and own.deviation < LEAST and not own.alone:
         raise Misuse(f"--deviation {float(own.deviation):g}: 0.5 is the whole plan; less goes with --alone")
     if own.room and (own.df is own.pgs is None or own.alone or own.deviation is not None):
@@ -164,22 +157,18 @@ def options_of(arguments: Arguments) -> PlanOptions:
     if own.alone and own.max is not None and own.max > MOST_MOVES:
         raise Misuse(f"--max {own.max}: with --alone at most {MOST_MOVES} moves a pool")
     return PlanOptions(
-        source_of(own),
-        tuple(own.pool or ()),
-        getattr(own, "class"),
-        own.max,
-        own.deviation,
-        own.alone,
-        own.room,
-        own.by_weight,
-        own.anyway,
-        DataFiles(own.df, own.pgs, own.osds),
-        own.undo,
-        part_words(own, own.batch is not None, "--batch"),
-        own.to,
-        own.json,
-        own.status,
-        not own.no_guard,
+        source=source_of(own),
+        pools=tuple(own.pool or ()),
+        classes=getattr(own, "class"),
+        most=own.max,
+        deviation=own.deviation,
+        is_alone=own.alone,
+        is_room=own.room,
+        is_by_weight=own.by_weight,
+        is_anyway=own.anyway,
+        data=DataFiles(own.df, own.pgs, own.osds),
+        output=output,
+        is_state=own.status,
     )
 
 
@@ -205,12 +194,13 @@ def wish_of(options: PlanOptions, lives: list[Live], names: Names, held: Held) -
     most = options.most or (MOST_MOVES if options.is_alone else ALL)
     own = {number for live in lives for number in live.pools}
     named_pools = pools_of(options, lives, names, held)
-    batch, data = options.parts.batch or ALL, held.data
+    parts, data = options.output.parts, held.data
     beside = sorted((data.of_pool if data else {}).keys() - own)
     if options.is_room and beside:
         raise Fault(f"--room wants all pools of the cluster: pool {beside[0]} holds data, and is in no map here")
     forms = options.is_alone, options.is_room, options.is_by_weight
-    return Wish(named_pools, options.deviation, most, batch, *forms, data, held.nearfull, options.parts.busy(held.tree))
+    busy = parts.busy(held.tree)
+    return Wish(named_pools, options.deviation, most, parts.batch or ALL, *forms, data, held.nearfull, busy)
 
 
 def chosen_in(options: PlanOptions, names: Names) -> frozenset[int] | None:
@@ -268,7 +258,7 @@ def plan_of_map(options: PlanOptions, known: KnownData) -> ToldPlan:
             chosen_in(options, names),
         )
         live = Live(value, value, names, judge_of_map(value, names), monitor)
-        origin = origin_of_map(source.program, options.files(), value, names, options.is_guarded)
+        origin = origin_of_map(source.program, options.files(), value, names, options.output.is_guarded)
         told = told_by([live], options, names, held, origin)
     return told
 
@@ -310,7 +300,7 @@ def plan_of_dumps(options: PlanOptions, known: KnownData) -> ToldPlan:
         misplaced = misplaced_in(lives, whole)
         check_misplaced(misplaced, options.is_anyway)
         check_told(whole, lives, options)
-        origin = origin_of(source.program, options.files(), cluster, options.is_guarded)
+        origin = origin_of(source.program, options.files(), cluster, options.output.is_guarded)
         told = told_by(lives, options, names, held, origin)
     rested = rested_after(whole, told.outcome.steps, source.program)
     # Ceph's own balancer takes a reweight above 1 as it is, and placement takes it as 1.
@@ -354,9 +344,9 @@ def put_plan_json(told: ToldPlan) -> None:
 
 def script_of(told: ToldPlan, options: PlanOptions, number: int = 1, count: int = 1) -> Script:
     """What stands round the commands of a plan or of one of several parts of it, or of what takes these back."""
-    part = f", part {number} of {count}" if options.parts.batch is not None else ""
-    before = balancer_words(None if options.is_undo else told.quiet) + client_words(told.client) + WATCH
-    if options.is_undo:
+    is_undo, part = options.output.is_undo, f", part {number} of {count}" if options.output.is_parted else ""
+    before = balancer_words(None if is_undo else told.quiet) + client_words(told.client) + WATCH
+    if is_undo:
         title = f"The way back from a plan over epoch {told.epoch}{part}"
         end = "after:  these groups have the exceptions of that epoch again, whichever part of the plan was run"
         return Script(title, [*before, end], told.weights, told.names, told.origin)
@@ -369,12 +359,11 @@ def script_of(told: ToldPlan, options: PlanOptions, number: int = 1, count: int 
 
 def scripts_of(told: ToldPlan, options: PlanOptions) -> list[str]:
     """The scripts of the plan, or of the way back from it: one, or one for each part of so many commands."""
-    parts = (
-        told.outcome.parts if options.parts.batch is not None else [told.outcome.steps] if told.outcome.steps else []
-    )
+    outcome = told.outcome
+    parts = outcome.parts if options.output.is_parted else [outcome.steps] if outcome.steps else []
     found = []
     for number, part in enumerate(parts, 1):
-        steps = [step.undone() for step in part] if options.is_undo else part
+        steps = [step.undone() for step in part] if options.output.is_undo else part
         found.append(script_of(told, options, number, len(parts)).text(steps))
     return found
 
@@ -386,9 +375,9 @@ def check_printed(told: ToldPlan, scripts: list[str], options: PlanOptions) -> N
     undo = "\n".join(line for step in steps for line in step.undo)
     if not steps:
         return
-    if options.is_json:
+    if options.output.is_json:
         told.printed.check_scripts([commands], lengths, [undo])
-    elif options.is_undo:
+    elif options.output.is_undo:
         told.printed.check_scripts([commands], lengths, scripts)
     else:
         told.printed.check_scripts(scripts, lengths, [])
@@ -401,25 +390,15 @@ def work(options: PlanOptions) -> None:
     scripts = scripts_of(told, options)
     check_printed(told, scripts, options)
     print("\n".join(told.lines(options.deviation)), file=sys.stderr)
-    if options.is_json:
+    if options.output.is_json:
         put_plan_json(told)
     elif options.is_state:
         print(state_line(told.outcome))
-    elif options.parts.batch is not None:
-        put_batches(options.to or "", "undo" if options.is_undo else "plan", scripts)
     else:
-        print("".join(scripts), end="")
+        options.output.put("plan", scripts)
 
 
 # The command line
-
-
-def commands_a_file(word: str) -> int:
-    """A number of commands; an error of use where it is none."""
-    number = int(word) if re.fullmatch("[0-9]{1,20}", word) else 0
-    if not 1 <= number <= 2**31:
-        raise argparse.ArgumentTypeError(f"{word}: no number of commands from 1 on")
-    return number
 
 
 def distance(word: str) -> Fraction:
@@ -437,21 +416,9 @@ def distance(word: str) -> Fraction:
 def add_to(commands_of: Commands) -> None:
     """The subcommand."""
     own = commands_of.add_parser("plan", help="a balancer's plan as Ceph's commands", description=__doc__)
-    forms = [
-        "[--pool ID|NAME,..]..",
-        "[--class CLASS,..]",
-        "[--max N]",
-        "[--deviation D]",
-        "[--alone]",
-        "[--room]",
-        "[--by-weight]",
-        "[--undo]",
-        "[--batch N --to FOLDER [--osd-most M] [--host-most M]]",
-    ]
-    words = ["[--df FILE]", "[--pgs FILE]", "[--osds FILE]", "[--anyway]", "[--status]", "[--json]", "[--no-guard]"]
-    add_files(own, *forms, *words)
-    add_guard(own)
-    add_json(own)
+    add_files(own)
+    undo = "the commands that take the groups of the plan back to the exceptions that they have in the files given"
+    add_put_words(own, undo, file_or_folder("plan"))
     own.add_argument(
         "--pool",
         metavar="ID|NAME,..",
@@ -486,43 +453,36 @@ def add_to(commands_of: Commands) -> None:
         help="go by shares by weight alone, as Ceph's balancer does, also where a rule can never give them",
     )
     own.add_argument(
-        "--undo",
-        action="store_true",
-        help="the commands that take the groups of the plan back to the exceptions that they have in the files given",
-    )
-    own.add_argument(
-        "--batch",
-        metavar="N",
-        type=commands_a_file,
-        help="write files of at most N commands each, to be run one after the other; those of one group stay together",
-    )
-    own.add_argument(
         "--anyway",
         action="store_true",
         help="a plan also amid an outage, or while 5 %% of the places are still to move: Ceph's balancer would wait",
     )
-    add_part_words(own)
-    own.add_argument(
+    putting(own).add_argument(
         "--status",
         action="store_true",
         help="in place of the commands one line: planned, nothing to do, or nothing can be planned and why",
     )
-    own.add_argument("--to", metavar="FOLDER", help="the folder of these files: plan-001.sh, .. or undo-001.sh, ..")
-    own.add_argument(
+    add_data_files(own)
+    set_work(own, options_of, work)
+
+
+def add_data_files(own: argparse.ArgumentParser) -> None:
+    """The options for what is known of the data."""
+    group = reading(own)
+    group.add_argument(
         "--df",
         metavar="FILE",
         help="what `ceph df --format json` prints: even the data too, and tell how much of it moves; by means of "
         "pools, "
         "without --pgs",
     )
-    own.add_argument(
+    group.add_argument(
         "--pgs",
         metavar="FILE",
         help="what `ceph pg dump -f json` prints: go by what each group holds; erasure pools want --df too",
     )
-    own.add_argument(
+    group.add_argument(
         "--osds",
         metavar="FILE",
         help="with --df or --pgs, what `ceph osd df -f json` prints: go by the disks, and let none get nearly full",
     )
-    set_work(own, options_of, work)

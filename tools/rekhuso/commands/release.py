@@ -22,11 +22,11 @@ from ..cluster.imports import imported
 from ..cluster.releases import least_client
 from ..cluster.reports import OSD_PART, dump_in_report
 from ..cluster.sources import Source
-from ..faults import Fault, Misuse
+from ..faults import Fault
 from ..files import json_of
 from ..output.json_output import put_json
 from ..output.origins import Origin, origin_of
-from ..output.plan_scripts import Script, WATCH, balancer_words, client_words, part_file, put_batches
+from ..output.plan_scripts import Script, WATCH, balancer_words, client_words, part_file
 from ..output.release_words import peak_words, release_lines
 from ..plans.hold_checks import check_still, moving_words
 from ..plans.movement import place_bytes
@@ -36,18 +36,17 @@ from ..values import SLOTS
 from .arguments import (
     ABOUT_DUMPS,
     DUMPS,
+    MORE,
     Arguments,
     Commands,
     Dumps,
     add_dump_options,
-    add_guard,
-    add_json,
+    reading,
     set_work,
     source_of,
 )
-from .filter_words import FILTERS, FilterWords, add_filter_words, filter_words
-from .part_words import PartWords, add_part_words, part_words
-from .plan import commands_a_file
+from .filter_words import FilterWords, add_filter_words, filter_words
+from .put_words import PutWords, add_put_words, file_or_folder, put_words
 
 UNDO = "undo:   the same words with --undo, over the same files, which are to be kept"
 
@@ -55,33 +54,28 @@ UNDO = "undo:   the same words with --undo, over the same files, which are to be
 @dataclass(frozen=True, **SLOTS)
 class ReleaseOptions:
     """The dumps of the cluster as it is held; the OSD dump whose exceptions are kept, if there is one; whether the way
-    leads to a plan; whether a cluster that moves is released too; and how it is put out: as the way back, in parts in
-    files of a folder, as JSON, or without guards; and which groups are let go.
+    leads to a plan; whether a cluster that moves is released too; how it is put out; and which groups are let go.
     """
 
     source: Source
     keep: str | None
     is_planned: bool
     is_anyway: bool
-    is_undo: bool
-    parts: PartWords
-    to: str | None
-    is_json: bool
-    is_guarded: bool
+    output: PutWords
     chosen: FilterWords
 
 
 def options_of(arguments: Arguments) -> ReleaseOptions:
     """The options of the command line. An error of use for options of which one would be passed over."""
     own = arguments
-    if (own.batch is None) != (own.to is None) and not own.json:
-        raise Misuse("--batch and --to go together: files of so many commands, and their folder")
-    if own.json and (own.to is not None or own.undo):
-        raise Misuse("--json tells the parts and their undoing at once: --to and --undo do not go with it")
-    parts = part_words(own, own.batch is not None, "--batch")
-    chosen = filter_words(own, own.leaves)
-    forms = own.keep, own.to_plan, own.anyway, own.undo, parts, own.to, own.json, not own.no_guard
-    return ReleaseOptions(source_of(own), *forms, chosen)
+    return ReleaseOptions(
+        source=source_of(own),
+        keep=own.keep,
+        is_planned=own.to_plan,
+        is_anyway=own.anyway,
+        output=put_words(own, True, own.batch is not None, "--batch"),
+        chosen=filter_words(own, own.leaves),
+    )
 
 
 def kept_in(path: str | None, cluster: Cluster) -> Exceptions:
@@ -107,10 +101,10 @@ def kept_in(path: str | None, cluster: Cluster) -> Exceptions:
 def script_of(found: Release, cluster: Cluster, options: ReleaseOptions, origin: Origin, number: int) -> Script:
     """What stands round the commands of a part."""
     count, names = len(found.parts), cluster.all_names()
-    part = f", part {number} of {count}" if options.parts.batch is not None else ""
+    part = f", part {number} of {count}" if options.output.is_parted else ""
     weights = place_bytes(found.pools, None)
     before = balancer_words(None) + client_words(least_client(cluster.osd_dump)) + WATCH
-    if options.is_undo:
+    if options.output.is_undo:
         title = f"The way back from a release over epoch {found.epoch}{part}"
         return Script(title, before, weights, names, origin)
     order = [f"order:  part {number - 1} is run before, and its groups have moved"] if number > 1 else []
@@ -124,7 +118,7 @@ def scripts_of(found: Release, cluster: Cluster, options: ReleaseOptions, origin
     """The parts, or the way back from them, a script each."""
     texts = []
     for number, part in enumerate(found.parts, 1):
-        steps = [step.undone() for step in part] if options.is_undo else part
+        steps = [step.undone() for step in part] if options.output.is_undo else part
         texts.append(script_of(found, cluster, options, origin, number).text(steps))
     return texts
 
@@ -133,9 +127,9 @@ def check_printed(found: Release, scripts: list[str], options: ReleaseOptions) -
     """Has the program judge what is to be put out. A fault where it is not what is told."""
     parts = ["\n".join(line for step in part for line in step.commands) for part in found.parts]
     undo = ["\n".join(line for step in part for line in step.undo) for part in found.parts]
-    if options.is_json:
+    if options.output.is_json:
         found.printed.check_scripts(parts, found.lengths, undo)
-    elif options.is_undo:
+    elif options.output.is_undo:
         found.printed.check_scripts(parts, found.lengths, scripts)
     else:
         found.printed.check_scripts(scripts, found.lengths, [])
@@ -170,17 +164,15 @@ def work(options: ReleaseOptions) -> None:
     cluster = imported(source.dumps()).cluster
     check_still(moving_words(cluster, program), options.is_anyway, "released")
     goal = Goal(kept_in(options.keep, cluster), options.is_planned, options.is_anyway, options.chosen.chosen(cluster))
-    found = release_of(cluster, goal, options.parts.size(cluster), program)
-    origin = origin_of(program, [*source.paths, source.tree, options.keep], cluster, options.is_guarded)
+    found = release_of(cluster, goal, options.output.parts.size(cluster), program)
+    origin = origin_of(program, [*source.paths, source.tree, options.keep], cluster, options.output.is_guarded)
     scripts = scripts_of(found, cluster, options, origin)
     check_printed(found, scripts, options)
     print("\n".join(release_lines(found)), file=sys.stderr)
-    if options.is_json:
+    if options.output.is_json:
         put_release_json(found, origin)
-    elif options.to is not None:
-        put_batches(options.to, "undo" if options.is_undo else "release", scripts)
     else:
-        print("".join(scripts), end="")
+        options.output.put("release", scripts)
 
 
 def add_to(commands_of: Commands) -> None:
@@ -188,21 +180,15 @@ def add_to(commands_of: Commands) -> None:
     own = commands_of.add_parser(
         "release", help="lets go of held groups, part by part; with --from undo upmaps", description=__doc__
     )
-    own.usage = (
-        "%(prog)s OSD_DUMP CRUSH_DUMP [--keep OSD_DUMP] [--to-plan] [--anyway] [--undo] [--batch N --to FOLDER] "
-        f"[--osd-most M] [--host-most M] [--from OSD|BUCKET,..] {FILTERS} [--no-guard] "
-        "[--json] [--pools ID|NAME,..] [--tree FILE] [--unmatched]"
-    )
+    own.usage = f"%(prog)s OSD_DUMP CRUSH_DUMP [--to-plan] [--from OSD|BUCKET,..] {MORE}"
     own.add_argument(
         "files", metavar=DUMPS, nargs="+", action=Dumps, help=f"{ABOUT_DUMPS}: those of the cluster as it is held"
     )
-    own.add_argument("--keep", metavar="OSD_DUMP", help="the dump before the hold, whose exceptions are kept")
+    about = "the dump before the hold, whose exceptions are kept"
+    reading(own).add_argument("--keep", metavar="OSD_DUMP", help=about)
     own.add_argument("--to-plan", action="store_true", help="on to what `plan` makes of the cluster, each group once")
     own.add_argument("--anyway", action="store_true", help="also where the cluster moves already, or amid an outage")
-    own.add_argument("--undo", action="store_true", help="the way back to what is held in the dumps")
-    own.add_argument("--batch", metavar="N", type=commands_a_file, help="parts of at most N commands each")
-    own.add_argument("--to", metavar="FOLDER", help="the folder of their files: release-001.sh, .. or undo-001.sh, ..")
-    add_part_words(own)
+    add_put_words(own, "the way back to what is held in the dumps", file_or_folder("release"))
     own.add_argument(
         "--from",
         dest="leaves",
@@ -211,7 +197,5 @@ def add_to(commands_of: Commands) -> None:
     )
     add_filter_words(own, "let go")
     add_dump_options(own)
-    add_guard(own)
-    add_json(own)
     own.set_defaults(names=None)
     set_work(own, options_of, work)

@@ -46,6 +46,6 @@ def work(options: ReportOptions) -> None:
 def add_to(commands_of: Commands) -> None:
     """The subcommand."""
     own = commands_of.add_parser("report", help="one HTML page of a map", description=__doc__)
-    add_files(own, "[--osds FILE]")
+    add_files(own)
     add_osds(own)
     set_work(own, options_of, work)

@@ -31,7 +31,20 @@ from ..output.verify_words import told_lines, verify_lines
 from ..program.answers import Up
 from ..program.maps import Program
 from ..values import SLOTS
-from .arguments import ABOUT_DUMPS, DUMPS, Arguments, Commands, Dumps, add_json, add_names, set_work, source_of
+from .arguments import (
+    ABOUT_DUMPS,
+    DUMPS,
+    MORE,
+    Arguments,
+    Commands,
+    Dumps,
+    add_json,
+    add_names,
+    putting,
+    reading,
+    set_work,
+    source_of,
+)
 from .explain import GroupStory
 
 # Of how many groups that lie elsewhere the story is told.
@@ -141,13 +154,11 @@ def work(options: VerifyOptions) -> None:
 def add_to(commands: Commands) -> None:
     """The subcommand."""
     own = commands.add_parser("verify", help="whether a cluster lies where maps say", description=__doc__)
-    own.usage = (
-        "%(prog)s OSD_DUMP CRUSH_DUMP --pgs PGS [--json] [--case FILE] [--names FILE] [--pools ID|NAME,..] "
-        "[--tree FILE] [--unmatched]"
-    )
+    own.usage = f"%(prog)s OSD_DUMP CRUSH_DUMP --pgs PGS [--case FILE] {MORE}"
     own.add_argument("files", metavar=DUMPS, nargs="+", action=Dumps, help=ABOUT_DUMPS)
-    own.add_argument("--pgs", metavar="PGS", required=True, help="what `ceph pg dump -f json` prints, dumped last")
-    own.add_argument("--case", metavar="FILE", help="write one group as a case: the first that lies elsewhere")
+    about = "what `ceph pg dump -f json` prints, dumped last"
+    reading(own).add_argument("--pgs", metavar="PGS", required=True, help=about)
+    putting(own).add_argument("--case", metavar="FILE", help="write one group as a case: the first that lies elsewhere")
     add_names(own)
     add_json(own)
     set_work(own, options_of, work)

@@ -26,8 +26,8 @@ from ..plans.question import Balance, Question
 from ..program.maps import Map, altered
 from ..values import SLOTS
 from ..words import counted
-from .arguments import ABOUT_FILES, Arguments, Commands, FILES, add_names, set_work, source_of, usage
-from .change_words import USE, ChangeWords, add_change_words, change_words, files_and_change
+from .arguments import ABOUT_FILES, FILES, Arguments, Commands, add_json, add_names, putting, set_work, source_of, usage
+from .change_words import ChangeWords, add_change_words, change_words, files_and_change
 from .whatif_words import number_of, osds_below
 
 
@@ -107,13 +107,13 @@ def options_of(arguments: Arguments) -> WhatifOptions:
     if arguments.anyway and not arguments.balance:
         raise Misuse("--anyway goes with --balance alone")
     found = WhatifOptions(
-        source_of(arguments, files),
-        change_words(arguments, change),
-        arguments.each,
-        Balance(arguments.anyway) if arguments.balance else None,
-        arguments.hold,
-        arguments.picture,
-        arguments.json,
+        source=source_of(arguments, files),
+        asked=change_words(arguments, change),
+        each=arguments.each,
+        balance=Balance(arguments.anyway) if arguments.balance else None,
+        is_held=arguments.hold,
+        picture=arguments.picture,
+        is_json=arguments.json,
     )
     found.check()
     return found
@@ -159,9 +159,7 @@ def work(options: WhatifOptions) -> None:
 def add_to(commands: Commands) -> None:
     """The subcommand."""
     own = commands.add_parser("whatif", help="what moves if a change is made", description=__doc__)
-    own.usage = usage(
-        "[CHANGE | --each TYPE]", *USE, "[--balance [--anyway]]", "[--hold]", "[--json]", "[--picture FILE]"
-    )
+    own.usage = usage("[CHANGE | --each TYPE]", "[--out OSD ..]", "[--crush FILE]")
     own.add_argument(
         "words",
         metavar=f"{FILES} [CHANGE]",
@@ -176,6 +174,6 @@ def add_to(commands: Commands) -> None:
     )
     own.add_argument("--hold", action="store_true", help="tell also what `hold` of the change would leave")
     add_names(own)
-    own.add_argument("--json", action="store_true", help="as JSON")
-    own.add_argument("--picture", metavar="FILE", help="writes beside it which host gives to which, as SVG")
+    add_json(own)
+    putting(own).add_argument("--picture", metavar="FILE", help="writes beside it which host gives to which, as SVG")
     set_work(own, options_of, work)
