@@ -267,7 +267,7 @@ class BadDrains(StockCase):
     def cases(self) -> Iterator[tuple[list[object], int, str]]:
         """Words behind the dumps, the status, and what is told."""
         yield ["osd.1", "--batch", "5"], 2, "--batch goes with --to"
-        yield ["osd.1", "--json", "--undo"], 2, "--json tells the scripts and their undoing at once"
+        yield ["osd.1", "--json", "--undo"], 2, "--json tells the commands and their undoing at once"
         yield ["osd.1", "osd.1"], 2, "osd.1 is named twice"
         yield ["osd.1", "1"], 1, "osd.1 is named twice, by osd.1 and 1"
         yield ["node1", "osd.1"], 1, "osd.1 is named twice, by node1 and osd.1"

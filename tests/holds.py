@@ -281,7 +281,7 @@ class BadHolds(StockCase):
             (["whatif", *files, "--out", "osd.1", "--hold", "--balance"], "--hold does not go with --balance"),
             (["release", files[0]], "release takes the two dumps of a cluster"),
             (["release", *files, "--batch", "5"], "--batch goes with --to"),
-            (["release", *files, "--json", "--undo"], "--json tells the parts and their undoing"),
+            (["release", *files, "--json", "--undo"], "--json tells the commands and their undoing"),
         ):
             with self.subTest(words=[str(word)[-12:] for word in words]):
                 self.is_told(self.tools.run(*words), 2, told, words)
