@@ -11,7 +11,6 @@ use Rattle.tip.specs.declared.twins.Kept.{Kept}
 use Rattle.tip.specs.declared.twins.Mine.{Mine}
 use Rattle.ticketlock.specs.Standing.{IsAt}
 use Rattle.ticketlock.specs.Callers.{IsNewAt}
-use Rattle.ticketlock.specs.Contents.{value_in}
 use Rattle.ticketlock.specs.Guards.{first_of_read, first_of_write}
 use Rattle.maptypes.specs.Incrementals.{Step}
 use Rattle.osdmap.specs.Maps.{ClusterMap}
@@ -159,7 +158,8 @@ pub record TakesHold {X : Type 0} (monitor : Monitored) (before after : Member) 
 -- the state that a guard lends: while it lends none, the one that the lock was made with
 abbrev pub lent : {K : Type 0} → ReadGuard (Locked K) → StateFacts
 lent guard =
-    (unwrap_or (option_and_then value_in guard.claim.value) (first_of_read guard)).state.value
+    unwrap_or (option_and_then (option_map (λ kept. kept.value.state.value)) guard.claim.value)
+    (first_of_read guard).state.value
 
 -- the guard shares this monitor's lock
 pub record Shares {K : Type 0} (monitor : Monitored) (guard : ReadGuard (Locked K)) : Type 0 where
