@@ -40,7 +40,7 @@ TOLD: list[tuple[str, str, str]] = [
     (
         "README.md",
         "A plain map has at most {} OSDs, {} buckets of up to {} items each, {} rules, and {} pools of up to {} groups "
-        "and up to size {};",
+        "and up to size {}.",
         f"{PLAIN} mapparts.PLAIN_ITEMS mapparts.PLAIN_RULES {POOLS} mapparts.PLAIN_SIZE",
     ),
     (
