@@ -4,7 +4,8 @@ and what a cut may leave of them is opened.
 A cut comes behind any of the calls. What was synced is on the disk. Of what was written since, a cut leaves all,
 nothing, the last call alone, or any sectors; and past the old end of a file any bytes. Each change that was
 answered by then is in what is left, and at most one more; the map is that of `osdmapd`. Where the store is begun it
-may be none yet, and is then begun.
+may be none yet, and is then begun. Under `--wary`, which syncs each change twice, a cut may also leave any bytes where
+something was written since the last sync.
 """
 
 from __future__ import annotations
@@ -27,6 +28,7 @@ KEPT = 3
 # So many of the cuts are tried while a long log is copied into its file.
 TRIED = 100
 WAYS = ("nothing", "all", "the last", "sectors", "other sectors", "garbage")
+WARY = ("torn sectors", "other torn sectors")
 
 
 @dataclasses.dataclass
@@ -56,7 +58,9 @@ class Kept:
                 continue
             for at in range(0, len(call.data), SECTOR):
                 if "sectors" not in way or rng.random() < 0.5:
-                    put(content, call.at + at, call.data[at : at + SECTOR])
+                    sector = call.data[at : at + SECTOR]
+                    is_torn = "torn" in way and rng.random() < 0.5
+                    put(content, call.at + at, rng.randbytes(len(sector)) if is_torn else sector)
         if way == "garbage" and len(content) > len(self.synced):
             content[len(self.synced) :] = rng.randbytes(len(content) - len(self.synced))
         return bytes(content)
@@ -78,10 +82,16 @@ class Cut:
     answered: int | None
 
 
+def syncs_of(calls: list[Call]) -> int:
+    """How many of some calls sync a file."""
+    return sum(call.kind == "s" for call in calls)
+
+
 class StoreCuts(StoreCase):
     """What is left when the power is cut."""
 
     is_alone = True
+    own: tuple[str, ...] = ()
 
     def noted(self, words: list[object], first: int, count: int) -> tuple[list[Call], list[int]]:
         """The calls of a run that makes changes from an epoch on, and how many calls were made when the epoch was told
@@ -104,7 +114,7 @@ class StoreCuts(StoreCase):
         for number in range(len(calls) + 1):
             answered = sum(end <= number for end in ends) - 1
             seen = set[tuple[bytes, bytes]]()
-            for way in WAYS:
+            for way in WAYS + WARY * ("--wary" in self.own):
                 rng = random.Random(f"{number}, {way}")
                 file, log = [kept.left(way, rng) for kept in files.values()]
                 if (file, log) not in seen:
@@ -120,9 +130,9 @@ class StoreCuts(StoreCase):
             store = pathlib.Path(name) / "store"
             store.write_bytes(cut.file)
             log_of(store).write_bytes(cut.log)
-            done = self.ran(store, "-", text="dump\n")
+            done = self.ran(*self.own, store, "-", text="dump\n")
             if cut.answered is None and done.status == 5:
-                done = self.ran("--begin", EXAMPLE, store, "-", text="dump\n")
+                done = self.ran(*self.own, "--begin", EXAMPLE, store, "-", text="dump\n")
             answered = cut.answered or 0
             wanted = [self.opened.get(count) for count in range(answered, answered + 1 + (cut.answered is not None))]
             return None if done in wanted else f"{answered} changes were answered: {str(done)[:400]}"
@@ -147,14 +157,24 @@ class StoreCuts(StoreCase):
 
     def test_cuts(self) -> None:
         """The power is cut while a store is begun and changed, and while it is opened again, which leaves some changes,
-        and changed."""
+        and changed. Each change has one sync."""
+        self.assertEqual(self.cut_twice(), 1)
+
+    def test_wary(self) -> None:
+        """The same under `--wary`, where each change has two."""
+        self.own = ("--wary",)
+        self.assertEqual(self.cut_twice(), 2)
+
+    def cut_twice(self) -> int:
+        """Cuts the power in two runs over one store: how many syncs each change of the first has."""
         self.know([change_at(epoch) for epoch in range(1, 1 + CHANGES + AGAIN)])
-        calls, ends = self.noted([self.command, "--begin", EXAMPLE, self.store, "-"], 1, CHANGES)
+        calls, ends = self.noted([self.command, *self.own, "--begin", EXAMPLE, self.store, "-"], 1, CHANGES)
         self.judge([*self.cuts(calls, ends, {}, 0)])
-        before = self.files()
-        calls, ends = self.noted([self.command, "--keep", KEPT, self.store, "-"], 1 + CHANGES, AGAIN)
+        before, (syncs,) = self.files(), {syncs_of(calls[one:other]) for one, other in zip(ends, ends[1:])}
+        calls, ends = self.noted([self.command, *self.own, "--keep", KEPT, self.store, "-"], 1 + CHANGES, AGAIN)
         self.judge([*self.cuts(calls, ends, before, CHANGES)])
         self.assertGreater(len(calls), 10)
+        return syncs
 
     def test_long_log(self) -> None:
         """The power is cut while a store is opened whose log is copied into its file, and while it is changed."""

@@ -306,6 +306,24 @@ class StoreFiles(StoreCase):
                     self.assertEqual(self.store.read_bytes(), before)
                 self.answered(LAST, self.whole())
 
+    def test_looking(self) -> None:
+        """A start without a script cuts nothing off, however many changes there are, and leaves the file as it is; one
+        with a script leaves the last 1,024."""
+        most, more = 1024, 1030
+        self.made(*(text for _, text in TABLES))
+        with opened(self.store) as database:
+            database.execute("insert into map values (1, ?)", (model.Cluster(example()).written(),))
+            changes = [(epoch + 1, written_change({"base": epoch, "weight": [[0, epoch]]})) for epoch in range(1, 1 + more)]
+            database.executemany("insert into journal values (?, ?)", [(epoch, f"plain {text}") for epoch, text in changes])
+        starts: list[tuple[list[object], int]] = [([self.store], more), (["--keep", more, self.store, "-"], more)]
+        for words, left in [*starts, ([self.store, "-"], most)]:
+            with self.subTest(words=len(words)):
+                before = self.store.read_bytes()
+                done = self.ran(*words)
+                self.assertEqual((done.status, done.output.splitlines()[0]), (0, f"epoch {1 + more}"))
+                self.assertEqual(len(held(self.store).rows), left)
+                self.assertEqual(self.store.read_bytes() == before, left == more)
+
     def test_journal(self) -> None:
         """A run takes as many changes as its journal has room for, and the next run as many again."""
         for first in (1, 3):

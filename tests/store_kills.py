@@ -171,14 +171,15 @@ class Kills(StoreCase):
 
     is_alone = True
 
-    def kills(self, seed: int, rounds: int, is_stock: bool = False) -> None:
+    def kills(self, seed: int, rounds: int, is_stock: bool = False, is_wary: bool = False) -> None:
         """Kills so many runs over one store, and judges it after each."""
         self.options = ["--stock"] * is_stock
+        self.own = self.options + ["--wary"] * is_wary
         self.is_stock, self.word, self.opening = is_stock, "stock" if is_stock else "plain", 0.1
         first = self.file("map", json.dumps(a_map(is_stock)))
         self.story = Story(a_map(is_stock))
         self.story.maps[self.story.epoch] = self.played(first, [], *self.options)[-1]
-        self.assertEqual(self.ran(*self.options, "--begin", first, self.store).status, 0)
+        self.assertEqual(self.ran(*self.own, "--begin", first, self.store).status, 0)
         rngs = [random.Random(f"{seed}, {number}") for number in range(rounds)]
         ways = [rng.choices([*WAYS], [*WAYS.values()])[0] for rng in rngs]
         ways[0], ways[-1] = "sessions", "sessions"
@@ -242,7 +243,7 @@ class Kills(StoreCase):
             to.append(str(files[session.name]))
         words += ["-"] * is_live + [f"/dev/fd/{pair.lines[0]}" for pair in pairs]
         to += ["-"] * is_live + [f"/dev/fd/{pair.answers[1]}" for pair in pairs]
-        options = [*self.options, f"--journal={journal}", f"--keep={KEPT}", *[f"--to={path}" for path in to]]
+        options = [*self.own, f"--journal={journal}", f"--keep={KEPT}", *[f"--to={path}" for path in to]]
         return [str(self.command), *options, str(self.store), *words]
 
     def start_sessions(self, seed: str, mark: int, are_many: bool, journal: int) -> Started:
@@ -349,7 +350,7 @@ class Kills(StoreCase):
     def open_again(self) -> None:
         """Asks the program for the map of the store."""
         epoch = self.story.epoch
-        done = self.ran(*self.options, self.store, "-", text="dump\n")
+        done = self.ran(*self.own, self.store, "-", text="dump\n")
         wanted = f"epoch {epoch}\nsession 1\ndump {self.story.maps[epoch]}\n"
         self.assertEqual((done.status, done.output, done.error), (0, wanted, ""))
         self.assertEqual(held(self.store).last, epoch)
@@ -361,6 +362,10 @@ class Kills(StoreCase):
     def test_stock(self) -> None:
         """50 kills under `--stock`."""
         self.kills(2, 50, is_stock=True)
+
+    def test_wary(self) -> None:
+        """40 kills where each change is synced twice."""
+        self.kills(4, 40, is_wary=True)
 
     def test_long_log(self) -> None:
         """12 kills while a store is opened whose log is copied into its file, and of whose changes a few are kept."""

@@ -63,7 +63,8 @@ class StoreRestarts(StoreCase):
             told = "".join([f"epoch {made + 1}\n", "session 1\n", *answers])
             self.assertEqual(self.ran(*begin, self.store, "-", text=text), Done(0, told, ""))
             self.assertEqual(held(self.store).first[0], max(1, made + 1 - KEPT))
-        self.assertEqual(self.ran(self.store), Done(0, f"epoch {1 + len(lines)}\n", ""))
+        last = f"epoch {1 + len(lines)}\n"
+        self.assertEqual(self.ran(self.store, "-"), Done(0, f"{last}session 1\n", ""))
         gone = len(lines) - KEPT
         self.assertGreater(gone, EACH)
         self.judge_rows(range(1 + gone, 1 + len(lines)), self.played(EXAMPLE, lines[:gone])[-1])

@@ -1,13 +1,14 @@
 -- What the words of the program's command line ask for, by the parser's own definitions of what it finds in words.
-use Rattle.std.specs.Prelude.{◌≡◌, true, ℕ, pos, List, [], ◌∷◌, codes, Option, Some, option_map, Result}
-use Rattle.std.specs.Prelude.{string_bytes}
+use Rattle.std.specs.Prelude.{◌≡◌, ◌<◌, ◌^◌, Bool, true, false, ℕ, pos, List, [], ◌∷◌, codes, Option, Some, option_map}
+use Rattle.std.specs.Prelude.{MatchOption, Result, string_bytes}
 use Rattle.clap.specs.declared.builder.value_parser.ValueParser.TheVariants.{Signed}
-use Rattle.clap.specs.declared.builder.action.ArgAction.TheVariants.{Set, Append}
+use Rattle.clap.specs.declared.builder.action.ArgAction.TheVariants.{Set, Append, SetTrue}
 use Rattle.clap.specs.Lexer.{usize_max}
-use Rattle.clap.specs.Walk.{Row, Rule, Text, first_of}
+use Rattle.clap.specs.Walk.{Row, Rule, Text, first_of, one_of}
 use Rattle.clap.specs.Simple.{App, new_app, new_rule, on_top, with_rule}
 use Rattle.cli.specs.declared.choices.LineError.{LineError}
-use Rattle.cli.specs.Arguments.{journal_rule, stock_rule, to_rule, IsNumberOf, AreFoundSessions, ReadsBy}
+use Rattle.epochlog.specs.Epochs.{max_capacity}
+use Rattle.cli.specs.Arguments.{stock_rule, to_rule, IsNumberOf, AreFoundSessions, ReadsBy}
 use Rattle.osdmapstore.specs.declared.choices.Options.{Options}
 
 -- ---- the command
@@ -15,6 +16,16 @@ use Rattle.osdmapstore.specs.declared.choices.Options.{Options}
 -- how many changes an open may be told to leave
 abbrev pub most_kept : ℕ
 most_kept = 1000000
+
+-- `--journal N`, N a number from 1 to 65,536, and 65,536 where it is not given
+abbrev pub many_rule : Rule
+many_rule = record (new_rule (codes "journal")) {
+  long = Some (codes "journal");
+  action = Some Set;
+  value_names = 1;
+  defaults = codes "65536" ∷ [];
+  parser = Some (Signed (pos 1) (pos max_capacity));
+}
 
 -- `--begin MAP`
 abbrev pub begin_rule : Rule
@@ -34,9 +45,12 @@ keep_rule = record (new_rule (codes "keep")) {
   long = Some (codes "keep");
   action = Some Set;
   value_names = 1;
-  defaults = codes "1024" ∷ [];
   parser = Some (Signed (pos 0) (pos most_kept));
 }
+
+-- `--wary`
+abbrev pub wary_rule : Rule
+wary_rule = record (new_rule (codes "wary")) { long = Some (codes "wary"); action = Some SetTrue }
 
 -- `--backup FILE`
 abbrev pub backup_rule : Rule
@@ -59,16 +73,18 @@ store_program = on_top (λ s. record s { has_version = true }) (new_app (codes "
 
 -- with the options of sessions
 abbrev pub store_program_of_sessions : App
-store_program_of_sessions = with_rule (with_rule (with_rule store_program journal_rule) stock_rule) to_rule
+store_program_of_sessions = with_rule (with_rule (with_rule store_program many_rule) stock_rule) to_rule
+
+-- with what makes a store, too
+abbrev pub store_program_with_maps : App
+store_program_with_maps = with_rule (with_rule store_program_of_sessions begin_rule) open_or_begin_rule
 
 -- with all its options
 abbrev pub store_program_with_options : App
-store_program_with_options =
-    with_rule (with_rule (with_rule (with_rule store_program_of_sessions begin_rule) open_or_begin_rule) keep_rule)
-    backup_rule
+store_program_with_options = with_rule (with_rule (with_rule store_program_with_maps keep_rule) wary_rule) backup_rule
 
--- `osdmapstore [--journal N] [--stock] [--to ANSWERS].. [--begin MAP] [--open-or-begin MAP] [--keep N] [--backup FILE]
--- STORE [SCRIPT..]`
+-- `osdmapstore [--journal N] [--stock] [--to ANSWERS].. [--begin MAP] [--open-or-begin MAP] [--keep N] [--wary]
+-- [--backup FILE] STORE [SCRIPT..]`
 abbrev pub store_app : App
 store_app = with_rule (with_rule store_program_with_options store_rule) any_scripts_rule
 
@@ -82,6 +98,20 @@ begin_path_in rows = first_of (codes "begin") rows
 abbrev pub open_or_begin_path_in : List Row → Option Text
 open_or_begin_path_in rows = first_of (codes "open-or-begin") rows
 
+-- how many changes an open is told to leave; or no number of 32 bits was found
+abbrev pub IsKeepIn : List Row → Option ℕ → Type 0
+IsKeepIn rows keep =
+    MatchOption keep ((n : ℕ) → n < 2 ^ 32 → IsNumberOf (codes "keep") rows n → ⊥) (IsNumberOf (codes "keep") rows)
+
+-- what is found for `--wary` where it is not given, and where it is
+abbrev pub wary_word : Bool → Text
+wary_word false = codes "false"
+wary_word true = codes "true"
+
+-- whether two syncs a change were asked for
+abbrev pub IsWaryIn : List Row → Bool → Type 0
+IsWaryIn rows wary = (asked : Bool) → one_of (codes "wary") rows ≡ Some (wary_word asked) → wary ≡ asked
+
 -- the path that was found of the copy
 abbrev pub backup_path_in : List Row → Option Text
 backup_path_in rows = first_of (codes "backup") rows
@@ -90,12 +120,13 @@ backup_path_in rows = first_of (codes "backup") rows
 abbrev pub store_path_in : List Row → Option Text
 store_path_in rows = first_of (codes "STORE") rows
 
--- the options are what was found for the maps to begin with, the changes that are kept, the copy, the store and the
--- sessions
+-- the options are what was found for the maps to begin with, the changes that are kept, the syncs of a change, the
+-- copy, the store and the sessions
 pub record AreStoreFound (rows : List Row) (o : Options) : Type 0 where
   pub begin_found : begin_path_in rows ≡ option_map string_bytes o.begin
   pub open_or_begin_found : open_or_begin_path_in rows ≡ option_map string_bytes o.open_or_begin
-  pub keep_found : IsNumberOf (codes "keep") rows o.keep
+  pub keep_found : IsKeepIn rows o.keep
+  pub wary_found : IsWaryIn rows o.wary
   pub backup_found : backup_path_in rows ≡ option_map string_bytes o.backup
   pub store_found : store_path_in rows ≡ Some (string_bytes o.store)
   pub sessions_found : AreFoundSessions rows o.sessions

@@ -8,8 +8,10 @@ pub struct Options {
     pub begin: Option<String>,
     /// The path of the map that a new store begins with, where one is to be made if it is missing.
     pub open_or_begin: Option<String>,
-    /// How many changes an open leaves in the store.
-    pub keep: u32,
+    /// How many changes an open leaves in the store, where that is said.
+    pub keep: Option<u32>,
+    /// Whether each change is synced twice.
+    pub wary: bool,
     /// The path of the copy, where only one is to be made.
     pub backup: Option<String>,
     /// The path of the store.

@@ -8,16 +8,16 @@ ghost use Rattle.clap.specs.Walk.{first_of, rows_of};
 ghost use Rattle.epochlog.specs.Epochs.{max_capacity};
 ghost use Rattle.serving.specs.Serving.{max_scripts};
 ghost use Rattle.cli.specs.Arguments.{ArePaired, Chooses, IsNumberOf, IsReadBy};
-ghost use Rattle.osdmapstore.specs.CommandLine.{begin_rule, open_or_begin_rule, keep_rule, backup_rule};
+ghost use Rattle.osdmapstore.specs.CommandLine.{many_rule, begin_rule, open_or_begin_rule, keep_rule, wary_rule, backup_rule};
 ghost use Rattle.osdmapstore.specs.CommandLine.{store_rule, any_scripts_rule, store_program, store_app};
-ghost use Rattle.osdmapstore.specs.CommandLine.{store_program_of_sessions, store_program_with_options};
-ghost use Rattle.osdmapstore.specs.CommandLine.{AreStoreFound, ReadsStoreLine};
+ghost use Rattle.osdmapstore.specs.CommandLine.{store_program_of_sessions, store_program_with_maps};
+ghost use Rattle.osdmapstore.specs.CommandLine.{store_program_with_options};
+ghost use Rattle.osdmapstore.specs.CommandLine.{AreStoreFound, IsWaryIn, ReadsStoreLine};
 
 use crate::choices::Options;
 use clap::{Arg, ArgAction, ArgMatches, Command, value_parser};
-use cli::{
-    LineError, journal_option, line_error, path_in, session_options, stock_option, to_option,
-};
+use cli::{LineError, line_error, path_in, session_options, stock_option, to_option};
+use epochlog::MAX_CAPACITY;
 use std::alloc::{AllocError, Global};
 
 /// How many changes an open may be told to leave at most.
@@ -32,6 +32,19 @@ const ABOUT: &str =
 answers the lines of scripts over it, one line each, all scripts at once, and ends. Each change is in the file before \
 it is answered. Statuses: 0 done, 1 command line, 2 map refused, 3 file or output, 4 memory, 5 store, 6 a change was \
 not stored. The formats of stores, maps, changes, scripts and answers are in docs/FORMATS.md.";
+
+/// `--journal N`, as many as may be where it is not given: a store is to run on.
+fn journal_option<'a>(alloc: Global) -> Arg<'a>
+    ensures { IsReadBy many_rule result }
+{
+    Arg::new(alloc, "journal")
+        .long("journal")
+        .value_name("N")
+        .help("How many changes a run takes: 1 to 65536")
+        .action(ArgAction::Set)
+        .value_parser(value_parser!(u32).range(1..=i64::from(MAX_CAPACITY)))
+        .default_value("65536")
+}
 
 /// `--begin MAP`.
 fn begin_option<'a>(alloc: Global) -> Arg<'a>
@@ -62,10 +75,24 @@ fn keep_option<'a>(alloc: Global) -> Arg<'a>
     Arg::new(alloc, "keep")
         .long("keep")
         .value_name("N")
-        .help("How many of the changes that it finds an open leaves in the store: 0 to 1000000")
+        .help(
+            "How many of the changes that it finds an open leaves in the store: 0 to 1000000; 1024 where nothing is \
+said, and all where there is no script",
+        )
         .action(ArgAction::Set)
         .value_parser(value_parser!(u32).range(0..=MOST_KEPT))
-        .default_value("1024")
+}
+
+/// `--wary`.
+fn wary_option<'a>(alloc: Global) -> Arg<'a>
+    ensures { IsReadBy wary_rule result }
+{
+    Arg::new(alloc, "wary")
+        .long("wary")
+        .help(
+            "Syncs each change twice, for a disk that may tear what it writes in a crash of the machine",
+        )
+        .action(ArgAction::SetTrue)
 }
 
 /// `--backup FILE`.
@@ -123,14 +150,22 @@ fn program_of_sessions<'a>(alloc: Global) -> Result<Command<'a>, AllocError>
         .arg(to_option(alloc))
 }
 
+/// The program with what makes a store, too.
+fn program_with_maps<'a>(alloc: Global) -> Result<Command<'a>, AllocError>
+    ensures { IfOk result (λ c. app_of c ≡ store_program_with_maps) }
+{
+    program_of_sessions(alloc)?
+        .arg(begin_option(alloc))?
+        .arg(open_or_begin_option(alloc))
+}
+
 /// The program with all its options.
 fn program_with_options<'a>(alloc: Global) -> Result<Command<'a>, AllocError>
     ensures { IfOk result (λ c. app_of c ≡ store_program_with_options) }
 {
-    program_of_sessions(alloc)?
-        .arg(begin_option(alloc))?
-        .arg(open_or_begin_option(alloc))?
+    program_with_maps(alloc)?
         .arg(keep_option(alloc))?
+        .arg(wary_option(alloc))?
         .arg(backup_option(alloc))
 }
 
@@ -166,6 +201,13 @@ fn keep_in(matches: &ArgMatches<'_>) -> Option<u32>
     matches.get_one("keep")
 }
 
+/// Whether each change is to be synced twice: where `--wary` was given.
+fn wary_in(matches: &ArgMatches<'_>) -> bool
+    ensures { IsWaryIn (rows_of (found_of matches.now)) result }
+{
+    matches.get_flag("wary")
+}
+
 /// The options of words that the parser took. A value that it had to find and did not is told as out of memory.
 fn options_in(alloc: Global, matches: &ArgMatches<'_>) -> Result<Options, LineError>
     ensures least { IfOk result (λ o. 1 ≤ o.sessions.journal) }
@@ -175,12 +217,12 @@ fn options_in(alloc: Global, matches: &ArgMatches<'_>) -> Result<Options, LineEr
     ensures taken { Chooses AreStoreFound (rows_of (found_of matches.now)) result }
 {
     let store = path_in(matches, "STORE").ok_or(LineError::Memory)?;
-    let keep = keep_in(matches).ok_or(LineError::Memory)?;
     let sessions = session_options(alloc, matches)?;
     Ok(Options {
         begin: copied_path(alloc, matches, "begin")?,
         open_or_begin: copied_path(alloc, matches, "open-or-begin")?,
-        keep,
+        keep: keep_in(matches),
+        wary: wary_in(matches),
         backup: copied_path(alloc, matches, "backup")?,
         store: String::from_str(alloc, store)?,
         sessions,
@@ -188,11 +230,11 @@ fn options_in(alloc: Global, matches: &ArgMatches<'_>) -> Result<Options, LineEr
 }
 
 /// What a command line asks for, the program's name first: `[--journal N] [--stock] [--to ANSWERS].. [--begin MAP]
-/// [--open-or-begin MAP] [--keep N] [--backup FILE] STORE [SCRIPT..]`, the journal's N from 1 to 65,536, the other from
-/// 0 to 1,000,000, and 1,024 where one is not given, at most 64 scripts, and as many files of answers or none. The
-/// options are those that the parser finds in the words, exactly where it has nothing against them and the numbers are
-/// so; `Help` where help was asked for, `Usage` for what else the parser has against the words, `TooMany` where there
-/// are more scripts, `Unpaired` where there are files of answers but another number of them, else `Memory`.
+/// [--open-or-begin MAP] [--keep N] [--wary] [--backup FILE] STORE [SCRIPT..]`, the journal's N from 1 to 65,536, and
+/// 65,536 where it is not given, the other from 0 to 1,000,000, at most 64 scripts, and as many files of answers or
+/// none. The options are those that the parser finds in the words, exactly where it has nothing against them and the
+/// numbers are so; `Help` where help was asked for, `Usage` for what else the parser has against the words, `TooMany`
+/// where there are more scripts, `Unpaired` where there are files of answers but another number of them, else `Memory`.
 pub fn options(alloc: Global, words: &[String]) -> Result<Options, LineError>
     ensures least { IfOk result (λ o. 1 ≤ o.sessions.journal) }
     ensures most { IfOk result (λ o. o.sessions.journal ≤ max_capacity) }

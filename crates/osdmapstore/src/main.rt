@@ -1,6 +1,6 @@
 //! Answers scripts of commands over the map of a cluster that a file keeps, so that no change that was answered is lost
 //! in a crash: `osdmapstore [--journal N] [--stock] [--to ANSWERS].. [--begin MAP] [--open-or-begin MAP] [--keep N]
-//! [--backup FILE] STORE [SCRIPT..]`, where `-` for a script is standard input, and for a file of answers standard
+//! [--wary] [--backup FILE] STORE [SCRIPT..]`, where `-` for a script is standard input, and for a file of answers standard
 //! output.
 //!
 //! - `line`, `choices`: what a command line asks for
@@ -34,12 +34,15 @@ use mapstore::{FileMaps, MapStore, OpenError, Witness};
 use osdmap::OsdMap;
 use serving::{Fault, First, Part, System, Terms, serve_map};
 use session::Buffer;
-use sqlite::{Alter, Start, Unknown};
+use sqlite::{Alter, Start, Unknown, Wary};
 use std::alloc::AllocError;
 use std::process::ExitCode;
 use std::rt::Files;
 use std::sync::Wait;
 use std::thread::Threads;
+
+/// How many changes an open leaves before sessions, where nothing is said.
+const KEPT: u32 = 1024;
 
 /// Ends a run: where something kept it from being done, standard error tells why.
 fn end_run(rt: &impl Eprint, done: Result<(), Ending<'_>>) -> ExitCode
@@ -88,6 +91,15 @@ fn begin<'a, R: Files + AllocGlobal, V: Start, W: Start>(
     }
 }
 
+/// How many changes an open leaves: as many as are said, else all of them where no session is to run.
+fn kept_by(options: &Options) -> u32 {
+    match options.keep {
+        Some(keep) => keep,
+        None if options.sessions.scripts.is_empty() => u32::MAX,
+        None => KEPT,
+    }
+}
+
 /// Opens the store: the store, and the map that its texts stand for.
 fn open<'a, R, W: Start>(
     system: &System<'_, R>,
@@ -103,7 +115,7 @@ fn open<'a, R, W: Start>(
         system.host,
         options.store.as_str(),
         start,
-        options.keep,
+        kept_by(options),
         witness,
     ) {
         Ok((store, map)) => Ok(First { map, store }),
@@ -280,6 +292,24 @@ fn work<
     end_store(system, path, left)
 }
 
+/// Does the work of a command line over files of which nothing is known, by the reading of a crash that it asks for.
+fn work_on<'a, R: Files + AllocGlobal + Print + Eprint + Threads + Wait + Sync>(
+    system: &System<'_, R>,
+    options: &'a Options,
+) -> Result<(), Ending<'a>>
+    requires least { 1 ≤ options.now.sessions.journal }
+    requires most { options.now.sessions.journal ≤ max_capacity }
+    requires few { vec_len options.now.sessions.scripts ≤ max_scripts }
+    requires paired { ArePaired (vec_len options.now.sessions.scripts) (vec_len options.now.sessions.answers) }
+    ensures { IfErr result (λ e. 2 ≤ store_status_of e) }
+{
+    if options.wary {
+        work(system, options, (Wary, Wary, Wary))
+    } else {
+        work(system, options, (Unknown, Unknown, Unknown))
+    }
+}
+
 fn main(rt: HostRuntime) -> ExitCode {
     let alloc = rt.alloc();
     let words = match std::env::args(&rt) {
@@ -300,7 +330,7 @@ fn main(rt: HostRuntime) -> ExitCode {
     };
     let system = System { rt: &rt, host: &rt };
     match check_streams(&options.sessions) {
-        Ok(()) => end_run(&rt, work(&system, &options, (Unknown, Unknown, Unknown))),
+        Ok(()) => end_run(&rt, work_on(&system, &options)),
         Err(ending) => end_run(&rt, Err(Ending::Run(ending))),
     }
 }
