@@ -2,26 +2,32 @@
 
 Copies are made while a live session changes the store as quickly as it can, over many times that SQLite's log is copied
 into the file. Each is one file, whole by sqlite3, and is opened by the program; it has each change that was told before
-the copy was begun, and none that was not put before it was done, each as a row in order.
+the copy was begun, and none that was not put before it was done, each as a row in order. Files that are there stay as
+they are, whatever their names.
 """
 
 from __future__ import annotations
 
+import os
 import pathlib
 import random
+import shutil
 import signal
 import subprocess
 import threading
 import time
+from typing import Any
 
 from tests.cases import EXAMPLE
-from tests.store_failures import Talk, change_at, with_rows
-from tests.stores import Done, StoreCase, held, log_of
+from tests.store_failures import Talk, calls_in, change_at, refuser, with_rows
+from tests.stores import SECONDS, Done, StoreCase, files_of, held, log_of
 
 # So many copies are made beside one session, which makes at most so many changes.
 COPIES, CHANGES = 60, 60_000
-# So many copies of a store with so many rows are killed.
-KILLS, ROWS = 20, 60
+# So many copies of a store with so many rows are killed; and so often two are made at once.
+KILLS, ROWS, PAIRS = 20, 60, 25
+TAKEN = "there is a file at the path of the copy"
+NOBODY, LONGEST = 65534, 255
 
 
 class Writing:
@@ -52,12 +58,15 @@ class StoreBackups(StoreCase):
 
     is_alone = True
 
-    def judge(self, copy: pathlib.Path, done: Done, least: int, most: int) -> None:
-        """Asks that a copy is one whole file with the rows of a store of an epoch between two others."""
+    def judge(
+        self, copy: pathlib.Path, done: Done, least: int, most: int, beside: dict[str, bytes] | None = None
+    ) -> None:
+        """Asks that a copy is one whole file with the rows of a store of an epoch between two others, and that what was
+        there beside it stays as it is."""
         self.assertEqual((done.status, done.error), (0, ""), done)
         epoch = int(done.output.removeprefix("epoch "))
         self.assertTrue(least <= epoch <= most, (least, epoch, most))
-        self.assertEqual(sorted(path.name for path in copy.parent.glob(f"{copy.name}*")), [copy.name])
+        self.assertEqual(files_of(copy), {**(beside or {}), copy.name: copy.read_bytes()})
         found = held(copy)
         self.assertEqual([row for row, _ in found.rows], [*range(found.first[0] + 1, epoch + 1)])
         self.assertEqual(found.last, epoch)
@@ -106,8 +115,86 @@ class StoreBackups(StoreCase):
                     made += 1
                     self.assertEqual(held(copy).last, ROWS + 1)
                     continue
-                self.judge(copy, self.ran("--backup", copy, self.store), ROWS + 1, ROWS + 1)
+                left = files_of(copy)
+                self.judge(copy, self.ran("--backup", copy, self.store), ROWS + 1, ROWS + 1, left)
         self.assertLess(made, KILLS)
+
+    def test_parts(self) -> None:
+        """Files whose names are those of parts stay as they are."""
+        with_rows(self, 2)
+        copy = self.folder / "copy"
+        for name in ("copy.part", "copy.part-wal", "copy.1.part", "copy.2.part-wal", "copy.3.part"):
+            self.file(name, f"This is {name}.\n")
+        self.judge(copy, self.ran("--backup", copy, self.store), 3, 3, files_of(copy))
+
+    def test_two_at_once(self) -> None:
+        """Of two copies that are made at once under one name one is made, and tells its epoch; the other one is told
+        that there is a file."""
+        with_rows(self, ROWS)
+        for number in range(PAIRS):
+            copy = self.folder / f"both-{number}"
+            words = [str(self.command), f"--backup={copy}", str(self.store)]
+            with self.subTest(copy=number):
+                both = [
+                    subprocess.Popen(words, stdout=subprocess.PIPE, stderr=subprocess.PIPE, text=True) for _ in "12"
+                ]
+                ends = [(*process.communicate(timeout=SECONDS), process.returncode) for process in both]
+                one, other = sorted(
+                    (Done(status, out, error) for out, error, status in ends), key=lambda done: done.status
+                )
+                self.judge(copy, one, ROWS + 1, ROWS + 1)
+                self.assertEqual(other, Done(5, "", f"store: {TAKEN}\n"))
+
+    def test_rights(self) -> None:
+        """A copy has the rights of its store, from the first byte on."""
+        with_rows(self, 2)
+        for rights in (0o600, 0o640, 0o644):
+            with self.subTest(oct(rights)):
+                self.store.chmod(rights)
+                copy = self.folder / oct(rights)
+                self.judge(copy, self.ran("--backup", copy, self.store), 3, 3)
+                self.assertEqual(copy.stat().st_mode & 0o777, rights)
+
+    def test_target(self) -> None:
+        """Where a copy cannot be made, what is told is of the copy, and nothing is left there."""
+        with_rows(self, 2)
+        self.file("text", "")
+        shutil.copy(self.command, self.folder / "program")
+        self.folder.chmod(0o755)
+        closed = self.folder / "closed"
+        closed.mkdir(mode=0o555)
+        reasons = {
+            "none/copy": "the folder of the copy is missing",
+            "text/copy": "the folder of the copy is missing",
+            "closed/copy": "there is no right to make the copy in its folder",
+            "c" * LONGEST: "the file cannot be opened",
+        }
+        given: dict[str, Any] = {"user": NOBODY, "group": NOBODY, "extra_groups": []} if os.getuid() == 0 else {}
+        for path in (self.store, log_of(self.store)):
+            path.chmod(0o644)
+        self.folder.chmod(0o777)
+        before = sorted(self.folder.rglob("*"))
+        for name, reason in reasons.items():
+            with self.subTest(name[:20]):
+                words = [str(self.folder / "program"), f"--backup={self.folder / name}", str(self.store)]
+                done = subprocess.run(words, capture_output=True, text=True, timeout=SECONDS, **given)
+                self.assertEqual((done.returncode, done.stdout, done.stderr), (5, "", f"store: {reason}\n"))
+                self.assertEqual(sorted(self.folder.rglob("*")), before)
+        self.folder.chmod(0o755)
+
+    def test_synced(self) -> None:
+        """A copy is on the disk before it has its name, and its folder behind that; nothing else comes behind."""
+        with_rows(self, 2)
+        noted, place = self.folder / "noted", self.folder / "place"
+        place.mkdir()
+        given = {"LD_PRELOAD": str(refuser(self.folder)), "REFUSE_PATH": str(place), "NOTED": str(noted)}
+        words = [str(self.command), f"--backup={place / 'copy'}", str(self.store)]
+        done = subprocess.run(words, capture_output=True, timeout=SECONDS, env={**os.environ, **given})
+        self.assertEqual((done.returncode, done.stdout), (0, b"epoch 3\n"))
+        self.assertEqual(
+            [(call.kind, call.name) for call in calls_in(noted.read_bytes())][-2:],
+            [("s", "copy.1.part"), ("s", "place")],
+        )
 
     def test_refused(self) -> None:
         """No copy is made over a file or beside a log, of what is no store, or where there is none."""
@@ -115,7 +202,7 @@ class StoreBackups(StoreCase):
         text = self.file("text", "no database\n" * 100)
         self.file("beside-wal", bytes(4096))
         cases: dict[str, tuple[object, object]] = {
-            "there is a file at the path of the copy": (text, self.store),
+            TAKEN: (text, self.store),
             "there is a log at this path, and no store with it": (self.folder / "beside", self.store),
             "the file is not a store": (self.folder / "one", text),
             "there is no store at this path": (self.folder / "two", self.folder / "none"),

@@ -170,7 +170,8 @@ class StoreCuts(StoreCase):
         self.know([change_at(epoch) for epoch in range(1, 1 + CHANGES + AGAIN)])
         calls, ends = self.noted([self.command, *self.own, "--begin", EXAMPLE, self.store, "-"], 1, CHANGES)
         self.judge([*self.cuts(calls, ends, {}, 0)])
-        before, (syncs,) = self.files(), {syncs_of(calls[one:other]) for one, other in zip(ends, ends[1:])}
+        # The first change also syncs the beginning of the log.
+        before, (syncs,) = self.files(), {syncs_of(calls[one:other]) for one, other in zip(ends[1:], ends[2:])}
         calls, ends = self.noted([self.command, *self.own, "--keep", KEPT, self.store, "-"], 1 + CHANGES, AGAIN)
         self.judge([*self.cuts(calls, ends, before, CHANGES)])
         self.assertGreater(len(calls), 10)

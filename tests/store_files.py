@@ -22,11 +22,13 @@ from tests.stores import (
     SECONDS,
     SUM_BYTES,
     Done,
+    FULL,
     StoreCase,
     copied,
     files_of,
     held,
     log_of,
+    nearly,
     opened,
     page_size,
     pages_of,
@@ -291,15 +293,15 @@ class StoreFiles(StoreCase):
         self.answered(LAST, self.whole())
 
     def test_keep(self) -> None:
-        """An open leaves the file as it is, unless it has more changes than are to be kept: then so many are left, and
-        the first map is the one before them."""
+        """An open leaves the file as it is, unless it has more changes than twice those that are to be kept: then so
+        many are left, and the first map is the one before them."""
         lines = LINES.splitlines()
-        for keep in (len(lines), len(lines) - 1, 2, 1, 0):
+        for keep in (len(lines), 3, 2, 1, 0):
             with self.subTest(keep=keep):
                 self.five()
                 before = settled(self.store).read_bytes()
                 self.assertEqual(self.ran("--keep", keep, self.store), Done(0, f"epoch {LAST}\n", ""))
-                found, gone = held(self.store), len(lines) - keep
+                found, gone = held(self.store), len(lines) - keep if len(lines) > 2 * keep else 0
                 self.assertEqual(found.first, (1 + gone, self.played(EXAMPLE, lines[:gone])[-1]))
                 self.assertEqual(found.rows, [(epoch, row(epoch)) for epoch in range(2 + gone, LAST + 1)])
                 if not gone:
@@ -308,13 +310,17 @@ class StoreFiles(StoreCase):
 
     def test_looking(self) -> None:
         """A start without a script cuts nothing off, however many changes there are, and leaves the file as it is; one
-        with a script leaves the last 1,024."""
-        most, more = 1024, 1030
+        with a script leaves the last 1,024, where there are more than twice so many."""
+        most, more = 1024, 2050
         self.made(*(text for _, text in TABLES))
         with opened(self.store) as database:
             database.execute("insert into map values (1, ?)", (model.Cluster(example()).written(),))
-            changes = [(epoch + 1, written_change({"base": epoch, "weight": [[0, epoch]]})) for epoch in range(1, 1 + more)]
-            database.executemany("insert into journal values (?, ?)", [(epoch, f"plain {text}") for epoch, text in changes])
+            changes = [
+                (epoch + 1, written_change({"base": epoch, "weight": [[0, epoch]]})) for epoch in range(1, 1 + more)
+            ]
+            database.executemany(
+                "insert into journal values (?, ?)", [(epoch, f"plain {text}") for epoch, text in changes]
+            )
         starts: list[tuple[list[object], int]] = [([self.store], more), (["--keep", more, self.store, "-"], more)]
         for words, left in [*starts, ([self.store, "-"], most)]:
             with self.subTest(words=len(words)):
@@ -331,7 +337,7 @@ class StoreFiles(StoreCase):
             begin = ["--begin", EXAMPLE] if first == 1 else []
             done = self.ran("--journal", 2, *begin, self.store, "-", text=lines)
             told = [f"epoch {first}", "session 1", f"ok {first + 1} evals 0", f"ok {first + 2} evals 0"]
-            self.assertEqual(done, Done(0, "\n".join([*told, "err 28 JournalFull", ""]), ""))
+            self.assertEqual(done, Done(0, "\n".join([*told, "err 28 JournalFull", ""]), nearly(2) + FULL))
         self.assertEqual(self.ran(self.store).output, "epoch 5\n")
 
     def test_closed_streams(self) -> None:

@@ -217,7 +217,11 @@ class Kills(StoreCase):
         pairs = [Pair(os.pipe(), os.pipe()) for _ in writers[1:]]
         words = self.command_line(scripts, files, pairs, len(writers) > 0, journal)
         theirs = [pipe for pair in pairs for pipe in (pair.lines[0], pair.answers[1])]
-        process = limited(subprocess.Popen(words, stdin=subprocess.PIPE, stdout=subprocess.PIPE, pass_fds=theirs))
+        process = limited(
+            subprocess.Popen(
+                words, stdin=subprocess.PIPE, stdout=subprocess.PIPE, stderr=subprocess.DEVNULL, pass_fds=theirs
+            )
+        )
         for pipe in theirs:
             os.close(pipe)
         assert process.stdout and process.stdin

@@ -21,6 +21,8 @@ from tests.rows import written
 
 BUILT = TOP / "crates" / "osdmapstore" / "out" / "osdmapstore"
 SECONDS = 60
+# What a run tells once it has made all the changes that its journal has room for.
+FULL = "journal: full, so this run takes no more changes\n"
 # The lists of a change, each with what its entries are put in order by.
 ORDERS: dict[str, Callable[[Any], Any]] = {
     "old_pools": lambda entry: entry,
@@ -42,6 +44,11 @@ def store_program() -> pathlib.Path:
     """Where the program that is tested is, if it is there: at the path that OSDMAPSTORE names, or else where it is
     built."""
     return pathlib.Path(os.environ.get("OSDMAPSTORE", BUILT)).resolve()
+
+
+def nearly(journal: int) -> str:
+    """What a run tells once nine tenths of its journal are full."""
+    return f"journal: {journal * 9 // 10} of {journal} changes\n"
 
 
 @dataclasses.dataclass(frozen=True)

@@ -12,6 +12,8 @@ use refusal::Memory;
 use serving::{Part, Source, Streams, System, Target};
 use std::alloc::AllocError;
 use std::rt::Files;
+use std::sync::Arc;
+use std::sync::atomic::AtomicBool;
 use std::{fs, io};
 
 /// The word for a script that is standard input, and for a file of answers that is standard output.
@@ -71,8 +73,20 @@ fn target_of(host: &HostRuntime, path: &str) -> Result<Target, AllocError> {
     Ok(Target::File(String::from_str(host.alloc(), path)?))
 }
 
+/// The same mark, where there is one.
+fn again(mark: Option<&Arc<AtomicBool>>) -> Result<Option<Arc<AtomicBool>>, AllocError> {
+    match mark {
+        Some(mark) => Ok(Some(Arc::try_clone(mark)?)),
+        None => Ok(None),
+    }
+}
+
 /// What the session of each of these paths is played from, its answers to the file of another path.
-fn live_parts(host: &HostRuntime, options: &SessionOptions) -> Result<Vec<Part>, Memory>
+fn live_parts(
+    host: &HostRuntime,
+    options: &SessionOptions,
+    mark: Option<&Arc<AtomicBool>>,
+) -> Result<Vec<Part>, Memory>
     requires { vec_len options.now.answers ≡ vec_len options.now.scripts }
     ensures { IfOk result (λ parts. vec_len parts ≡ vec_len options.now.scripts) }
 {
@@ -80,7 +94,12 @@ fn live_parts(host: &HostRuntime, options: &SessionOptions) -> Result<Vec<Part>,
     for k in 0..options.scripts.len() {
         let source = source_of(host, options.scripts[k].as_str())?;
         let target = target_of(host, options.answers[k].as_str())?;
-        parts.push(Part::Live(Streams { source, target }))?;
+        let end = again(mark)?;
+        parts.push(Part::Live(Streams {
+            source,
+            target,
+            end,
+        }))?;
     }
     Ok(parts)
 }
@@ -89,6 +108,7 @@ fn live_parts(host: &HostRuntime, options: &SessionOptions) -> Result<Vec<Part>,
 fn script_parts<'a, R: Files + AllocGlobal>(
     system: &System<'_, R>,
     paths: &'a [String],
+    mark: Option<&Arc<AtomicBool>>,
 ) -> Result<Vec<Part>, Ending<'a>>
     ensures count { IfOk result (λ parts. vec_len parts ≡ length paths.now) }
     ensures status { IfErr result (λ e. 3 ≤ status_of e) }
@@ -99,6 +119,7 @@ fn script_parts<'a, R: Files + AllocGlobal>(
             Part::Live(Streams {
                 source: Source::Standard(system.host.stdin()),
                 target: Target::Standard(system.host.stdout()),
+                end: again(mark).map_err(|_| Ending::Memory)?,
             })
         } else {
             Part::Script(read(system.rt, path.as_str())?)
@@ -111,7 +132,7 @@ fn script_parts<'a, R: Files + AllocGlobal>(
 }
 
 /// What the sessions of a run are played from: scripts are read; where there are files of answers, each session opens
-/// its own files.
+/// its own files. Live sessions read no more lines once a mark is set, where there is one.
 ///
 /// # Errors
 ///
@@ -119,15 +140,16 @@ fn script_parts<'a, R: Files + AllocGlobal>(
 pub fn parts_of<'a, R: Files + AllocGlobal>(
     system: &System<'_, R>,
     options: &'a SessionOptions,
+    mark: Option<&Arc<AtomicBool>>,
 ) -> Result<Vec<Part>, Ending<'a>>
     requires { ArePaired (vec_len options.now.scripts) (vec_len options.now.answers) }
     ensures count { IfOk result (λ parts. vec_len parts ≡ vec_len options.now.scripts) }
     ensures status { IfErr result (λ e. 3 ≤ status_of e) }
 {
     if options.answers.is_empty() {
-        script_parts(system, options.scripts.as_slice())
+        script_parts(system, options.scripts.as_slice(), mark)
     } else {
-        live_parts(system.host, options).map_err(|_| Ending::Memory)
+        live_parts(system.host, options, mark).map_err(|_| Ending::Memory)
     }
 }
 

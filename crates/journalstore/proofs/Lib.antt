@@ -6,3 +6,4 @@ pub mod LoopLemmas
 pub mod CheckpointLemmas
 pub mod KeepLemmas
 pub mod LeftLemmas
+pub mod FoldLemmas

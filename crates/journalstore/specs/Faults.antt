@@ -1,13 +1,16 @@
 -- The words of the errors.
 use Rattle.std.specs.Prelude.{◌≢◌, ℕ, List, codes}
 use Rattle.journalstore.specs.declared.error.StoreError.{StoreError}
-use Rattle.journalstore.specs.declared.error.StoreError.TheVariants.{Missing, LogAlone, Taken, Moving, Unopened, InUse, Foreign, Damaged, Begun, EpochTooLarge, EpochTaken, TextTooLong, Full, Disk, Memory, Shut}
+use Rattle.journalstore.specs.declared.error.StoreError.TheVariants.{Missing, LogAlone, Taken, NoFolder, NoRight, NoCopy, Moving, Unopened, InUse, Foreign, Damaged, Begun, EpochTooLarge, EpochTaken, TextTooLong, Full, Disk, Memory, Shut}
 
 -- what an error says
 abbrev pub said : StoreError → List ℕ
 said Missing = codes "there is no store at this path"
 said LogAlone = codes "there is a log at this path, and no store with it"
 said Taken = codes "there is a file at the path of the copy"
+said NoFolder = codes "the folder of the copy is missing"
+said NoRight = codes "there is no right to make the copy in its folder"
+said NoCopy = codes "the copy cannot be made there"
 said Moving = codes "the store was written faster than it was copied"
 said Unopened = codes "the file cannot be opened"
 said InUse = codes "the store is in use"

@@ -3,3 +3,4 @@ pub mod Texts
 pub mod Read
 pub mod Faults
 pub mod Stores
+pub mod Folded

@@ -16,6 +16,12 @@ pub enum StoreError {
     LogAlone,
     /// There is a file already where a copy is to be made.
     Taken,
+    /// The folder in which a copy is to be made is missing.
+    NoFolder,
+    /// There is no right to make a copy in that folder.
+    NoRight,
+    /// The system refuses to make the copy.
+    NoCopy,
     /// The log was begun anew during each try to copy it.
     Moving,
     /// The file cannot be opened: its folder is missing, it is no plain file, or the system refuses it.
@@ -55,6 +61,9 @@ impl fmt::Display for StoreError {
             StoreError::Missing => "there is no store at this path",
             StoreError::LogAlone => "there is a log at this path, and no store with it",
             StoreError::Taken => "there is a file at the path of the copy",
+            StoreError::NoFolder => "the folder of the copy is missing",
+            StoreError::NoRight => "there is no right to make the copy in its folder",
+            StoreError::NoCopy => "the copy cannot be made there",
             StoreError::Moving => "the store was written faster than it was copied",
             StoreError::Unopened => "the file cannot be opened",
             StoreError::InUse => "the store is in use",
@@ -80,6 +89,15 @@ pub(crate) fn of_system(error: &io::Error, otherwise: StoreError) -> StoreError
         io::ErrorKind::OutOfMemory => StoreError::Memory,
         io::ErrorKind::StorageFull => StoreError::Full,
         _ => otherwise,
+    }
+}
+
+/// The name of a failure of the system where a copy is to be made.
+pub(crate) fn of_copy(error: &io::Error) -> StoreError {
+    match error.kind() {
+        io::ErrorKind::NotFound | io::ErrorKind::NotADirectory => StoreError::NoFolder,
+        io::ErrorKind::PermissionDenied | io::ErrorKind::ReadOnlyFilesystem => StoreError::NoRight,
+        _ => of_system(error, StoreError::NoCopy),
     }
 }
 

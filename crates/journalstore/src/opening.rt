@@ -10,6 +10,7 @@ ghost use Rattle.journalstore.specs.Faults.{IsOfFile};
 ghost use Rattle.journalstore.specs.Texts.{Texts, StandsFor};
 ghost use Rattle.journalstore.specs.Read.{texts_read};
 ghost use Rattle.journalstore.specs.Stores.{IsReady, Holds};
+ghost use Rattle.journalstore.specs.Folded.{IsFoldedFrom};
 
 use crate::error::StoreError;
 use crate::exclusive::Exclusive;
@@ -17,7 +18,8 @@ use crate::files::check_there;
 use crate::reading::{StoredTexts, read};
 use crate::shape::is_store;
 use crate::store::TextStore;
-use sqlite::{Connection, FileFrom, FileStore, Start};
+use sqlite::{Connection, FileFrom, FileStore, Files, Start};
+use sqlite_disk::Disk;
 
 /// A connection to files that held what `W` says.
 pub(crate) type FileConnection<W> = Connection<FileStore<FileFrom<W>>>;
@@ -85,16 +87,28 @@ pub fn open<W: Start>(
     Ok((TextStore { conn }, texts))
 }
 
-/// Copies the log of a store into its file, which then is the store by itself.
+/// Copies the log of a store into its file, which then is the store by itself: the two files, which hold the database
+/// that they held, the file alone too, also after a crash.
 ///
 /// # Errors
 ///
 /// Those of `open`; the store holds what it did.
-pub fn fold_log<W: Start>(rt: &HostRuntime, path: &str, start: W) -> Result<(), StoreError> {
+pub fn fold_log<W: Start>(
+    rt: &HostRuntime,
+    path: &str,
+    start: W,
+) -> Result<Files<FileFrom<W>>, StoreError>
+    ensures folded { IfOk result (IsFoldedFrom ⟦<FileFrom<W> as Disk>⟧ (image_at W.Start)) }
+{
     check_there(rt, path)?;
     let conn = find(rt, path, start)?;
-    conn.close()?;
-    Ok(())
+    match conn.close_files() {
+        Ok(files) => Ok(files),
+        Err((error, store)) => {
+            drop(store.close());
+            Err(error.into())
+        }
+    }
 }
 
 /// Whether there is no store at a path, nor anything of one.

@@ -55,18 +55,20 @@ fn hold<S: Alter>(
     ensures holds { HoldsJournal S.Store result (begun map.now.map) }
     ensures same { result.texts ≡ texts }
 {
+    let epoch = map.epoch();
     MapStore {
         texts,
         past: Noted::of(past),
         found: Noted::of(map),
-        last: map.epoch(),
+        first: epoch,
+        last: epoch,
         alloc,
         witness,
     }
 }
 
 /// The store over an open one, in which these texts were found, with the map that they stand for, which the journal
-/// begins with. The first map moves on where there are more than `keep` changes, so that so many are left.
+/// begins with. The first map moves on where there are more than twice `keep` changes, so that `keep` are left.
 ///
 /// # Errors
 ///
@@ -118,8 +120,8 @@ pub fn begin<V: Start, W: Start>(
     adopt(rt.alloc(), texts, found, 0, witness)
 }
 
-/// Opens a store: the map that its texts stand for, which the journal begins with. Where there are more than `keep`
-/// changes it writes a checkpoint, which leaves so many.
+/// Opens a store: the map that its texts stand for, which the journal begins with. Where there are more
+/// than twice `keep` changes it writes a checkpoint, which leaves `keep`.
 ///
 /// # Errors
 ///

@@ -20,10 +20,12 @@ pub struct MapStore<S: Alter> {
     pub(crate) past: Noted<StoredTexts>,
     /// The map that they stand for.
     pub(crate) found: Noted<OsdMap>,
+    /// The epoch of that map.
+    pub(crate) first: u64,
     /// No change has a later epoch.
     pub(crate) last: u64,
     pub(crate) alloc: Global,
-    /// Who is told why it fails.
+    /// Who is told why it fails, and how many changes it has taken.
     pub(crate) witness: Witness,
 }
 
@@ -50,6 +52,7 @@ impl<S: Alter> Keeps for MapStore<S> {
         };
         let Err(error) = self.texts.append(step.epoch(), text.as_str()) else {
             self.last = step.epoch();
+            self.witness.count(self.last.saturating_sub(self.first));
             return Ok(());
         };
         let is_running = self.texts.is_running();

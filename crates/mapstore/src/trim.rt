@@ -80,8 +80,9 @@ fn check_same(alloc: Global, texts: &StoredTexts, map: &OsdMap) -> Result<(), St
     }
 }
 
-/// Moves the first map on where there are more changes than so many, which are then left. What is left stands for the
-/// same map, which is tested before it is written: the texts that the store then holds.
+/// Moves the first map on where there are more changes than twice so many; so many are then left, and what that costs
+/// comes but once in so many changes. What is left stands for the same map, which is tested before it is written: the
+/// texts that the store then holds.
 ///
 /// # Errors
 ///
@@ -99,7 +100,7 @@ pub(crate) fn trim<S: Alter>(
     ensures map { IfOk result (λ past. IsMapOf (texts_read past) map.now.map) }
     ensures clean { HasCleanDisk (state S.Store store.new.conn) → HasCleanDisk (state S.Store store.old.conn) }
 {
-    if found.changes.len() as u64 <= u64::from(keep) {
+    if found.changes.len() as u64 <= 2 * u64::from(keep) {
         return Ok(found);
     }
     let past = shorten(alloc, found, keep)?;

@@ -1,4 +1,4 @@
-//! Who is told that a store has failed.
+//! Who is told that a store has failed, or that the journal of a run is full.
 
 use journalstore::StoreError;
 use std::alloc::AllocError;
@@ -6,23 +6,31 @@ use std::io::Stderr;
 use std::sync::Arc;
 use std::sync::atomic::{AtomicBool, Ordering};
 
-/// Tells the failure of a store on standard error, and notes that there was one. Others may note it together.
+/// Tells on standard error that a store has failed, and that the journal of a run is nearly full and full, and notes
+/// it. Others may note it together.
 #[derive(Drop)]
 pub struct Witness {
     stderr: Stderr,
-    mark: Arc<AtomicBool>,
+    /// Set once a store has failed.
+    failed: Arc<AtomicBool>,
+    /// Set once the journal is full.
+    full: Arc<AtomicBool>,
+    /// How many changes the journal has room for.
+    journal: u32,
 }
 
 impl Witness {
-    /// One who has seen no failure.
+    /// One who has seen nothing yet of a run whose journal has room for so many changes.
     ///
     /// # Errors
     ///
     /// Memory is short.
-    pub fn new(rt: &HostRuntime) -> Result<Witness, AllocError> {
+    pub fn new(rt: &HostRuntime, journal: u32) -> Result<Witness, AllocError> {
         Ok(Witness {
             stderr: rt.stderr(),
-            mark: Arc::new(rt.alloc(), AtomicBool::new(false))?,
+            failed: Arc::new(rt.alloc(), AtomicBool::new(false))?,
+            full: Arc::new(rt.alloc(), AtomicBool::new(false))?,
+            journal,
         })
     }
 
@@ -34,18 +42,45 @@ impl Witness {
     pub fn again(&self) -> Result<Witness, AllocError> {
         Ok(Witness {
             stderr: self.stderr,
-            mark: Arc::try_clone(&self.mark)?,
+            failed: Arc::try_clone(&self.failed)?,
+            full: self.full_mark()?,
+            journal: self.journal,
         })
+    }
+
+    /// What is set once the journal is full.
+    ///
+    /// # Errors
+    ///
+    /// There are too many who have it.
+    pub fn full_mark(&self) -> Result<Arc<AtomicBool>, AllocError> {
+        Ok(Arc::try_clone(&self.full)?)
     }
 
     /// Tells why a store has failed: a line on standard error.
     pub(crate) fn tell(&self, error: StoreError) {
         let _ = eprint!(self.stderr; "store: {error}\n");
-        self.mark.store(true, Ordering::SeqCst);
+        self.failed.store(true, Ordering::SeqCst);
+    }
+
+    /// Tells where the journal is nine tenths full, and where it is full, by how many changes the run has made.
+    pub(crate) fn count(&self, made: u64) {
+        let most = u64::from(self.journal);
+        if made == most {
+            let _ = eprint!(self.stderr; "journal: full, so this run takes no more changes\n");
+            self.full.store(true, Ordering::SeqCst);
+        } else if made == most * 9 / 10 {
+            let _ = eprint!(self.stderr; "journal: {made} of {most} changes\n");
+        }
     }
 
     /// Whether one of those who note together has seen a failure.
     pub fn has_seen_failure(&self) -> bool {
-        self.mark.load(Ordering::SeqCst)
+        self.failed.load(Ordering::SeqCst)
+    }
+
+    /// Whether one of those who note together has seen that the journal is full.
+    pub fn has_seen_full(&self) -> bool {
+        self.full.load(Ordering::SeqCst)
     }
 }

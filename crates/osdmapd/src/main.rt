@@ -38,7 +38,7 @@ fn work<'a, R: Files + AllocGlobal + Print + Eprint + Threads + Wait + Sync>(
 {
     let map = read(system.rt, options.map.as_str())?;
     let sessions = &options.sessions;
-    let parts = parts_of(system, sessions)?;
+    let parts = parts_of(system, sessions, None)?;
     let mut out = Buffer::new(system.rt.alloc());
     let terms = Terms {
         journal: sessions.journal,

@@ -52,6 +52,10 @@ keep_rule = record (new_rule (codes "keep")) {
 abbrev pub wary_rule : Rule
 wary_rule = record (new_rule (codes "wary")) { long = Some (codes "wary"); action = Some SetTrue }
 
+-- `--end-when-full`
+abbrev pub end_rule : Rule
+end_rule = record (new_rule (codes "end-when-full")) { long = Some (codes "end-when-full"); action = Some SetTrue }
+
 -- `--backup FILE`
 abbrev pub backup_rule : Rule
 backup_rule = record (new_rule (codes "backup")) { long = Some (codes "backup"); action = Some Set; value_names = 1 }
@@ -79,12 +83,16 @@ store_program_of_sessions = with_rule (with_rule (with_rule store_program many_r
 abbrev pub store_program_with_maps : App
 store_program_with_maps = with_rule (with_rule store_program_of_sessions begin_rule) open_or_begin_rule
 
+-- with how changes are kept, too
+abbrev pub store_program_with_changes : App
+store_program_with_changes = with_rule (with_rule (with_rule store_program_with_maps keep_rule) wary_rule) end_rule
+
 -- with all its options
 abbrev pub store_program_with_options : App
-store_program_with_options = with_rule (with_rule (with_rule store_program_with_maps keep_rule) wary_rule) backup_rule
+store_program_with_options = with_rule store_program_with_changes backup_rule
 
 -- `osdmapstore [--journal N] [--stock] [--to ANSWERS].. [--begin MAP] [--open-or-begin MAP] [--keep N] [--wary]
--- [--backup FILE] STORE [SCRIPT..]`
+-- [--end-when-full] [--backup FILE] STORE [SCRIPT..]`
 abbrev pub store_app : App
 store_app = with_rule (with_rule store_program_with_options store_rule) any_scripts_rule
 
@@ -103,14 +111,14 @@ abbrev pub IsKeepIn : List Row → Option ℕ → Type 0
 IsKeepIn rows keep =
     MatchOption keep ((n : ℕ) → n < 2 ^ 32 → IsNumberOf (codes "keep") rows n → ⊥) (IsNumberOf (codes "keep") rows)
 
--- what is found for `--wary` where it is not given, and where it is
-abbrev pub wary_word : Bool → Text
-wary_word false = codes "false"
-wary_word true = codes "true"
+-- what is found for an option without a value where it is not given, and where it is
+abbrev pub given_word : Bool → Text
+given_word false = codes "false"
+given_word true = codes "true"
 
--- whether two syncs a change were asked for
-abbrev pub IsWaryIn : List Row → Bool → Type 0
-IsWaryIn rows wary = (asked : Bool) → one_of (codes "wary") rows ≡ Some (wary_word asked) → wary ≡ asked
+-- whether such an option was given
+abbrev pub IsGivenIn : Text → List Row → Bool → Type 0
+IsGivenIn id rows given = (asked : Bool) → one_of id rows ≡ Some (given_word asked) → given ≡ asked
 
 -- the path that was found of the copy
 abbrev pub backup_path_in : List Row → Option Text
@@ -120,13 +128,14 @@ backup_path_in rows = first_of (codes "backup") rows
 abbrev pub store_path_in : List Row → Option Text
 store_path_in rows = first_of (codes "STORE") rows
 
--- the options are what was found for the maps to begin with, the changes that are kept, the syncs of a change, the
--- copy, the store and the sessions
+-- the options are what was found for the maps to begin with, the changes that are kept, the syncs of a change, the end
+-- at a full journal, the copy, the store and the sessions
 pub record AreStoreFound (rows : List Row) (o : Options) : Type 0 where
   pub begin_found : begin_path_in rows ≡ option_map string_bytes o.begin
   pub open_or_begin_found : open_or_begin_path_in rows ≡ option_map string_bytes o.open_or_begin
   pub keep_found : IsKeepIn rows o.keep
-  pub wary_found : IsWaryIn rows o.wary
+  pub wary_found : IsGivenIn (codes "wary") rows o.wary
+  pub end_found : IsGivenIn (codes "end-when-full") rows o.end_when_full
   pub backup_found : backup_path_in rows ≡ option_map string_bytes o.backup
   pub store_found : store_path_in rows ≡ Some (string_bytes o.store)
   pub sessions_found : AreFoundSessions rows o.sessions

@@ -8,13 +8,14 @@ use Rattle.cli.specs.declared.ending.Ending.TheVariants.{Memory}
 use Rattle.cli.specs.declared.ending.Ending.{Ending as RunEnding}
 use Rattle.cli.specs.Endings as run
 use Rattle.osdmapstore.specs.declared.ending.Ending.{Ending}
-use Rattle.osdmapstore.specs.declared.ending.Ending.TheVariants.{Store, Failed, Run}
+use Rattle.osdmapstore.specs.declared.ending.Ending.TheVariants.{Store, Failed, Full, Run}
 
--- the exit status: 5 for a store that is not begun or opened, 6 for one that failed, and what else ends a run by its
--- own
+-- the exit status: 5 for a store that is not begun or opened, 6 for one that failed, 8 for a journal that is full, and
+-- what else ends a run by its own
 abbrev pub store_status_of : Ending → ℕ
 store_status_of (Store error) = 5
 store_status_of (Failed other) = 6
+store_status_of Full = 8
 store_status_of (Run ending) = run.status_of ending
 
 -- what is told of what else ended a run
@@ -22,10 +23,11 @@ abbrev pub other_text_of : Option RunEnding → List ℕ
 other_text_of (Some ending) = run.text_of ending
 other_text_of None = []
 
--- what is told; that a store has failed was told when it did
+-- what is told; that a store has failed, or that a journal is full, was told when it came
 abbrev pub store_text_of : Ending → List ℕ
 store_text_of (Store error) = codes "store: " ++ open_error_text error ++ codes "\n"
 store_text_of (Failed other) = other_text_of other
+store_text_of Full = []
 store_text_of (Run ending) = run.text_of ending
 
 -- the exit status of a run: 0 where all is done

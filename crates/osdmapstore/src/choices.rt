@@ -12,6 +12,8 @@ pub struct Options {
     pub keep: Option<u32>,
     /// Whether each change is synced twice.
     pub wary: bool,
+    /// Whether the run ends once its journal is full.
+    pub end_when_full: bool,
     /// The path of the copy, where only one is to be made.
     pub backup: Option<String>,
     /// The path of the store.

@@ -12,6 +12,8 @@ pub enum Ending<'a> {
     Store(OpenError),
     /// The store has failed, which was told then; and what else ended the run.
     Failed(Option<cli::Ending<'a>>),
+    /// The journal is full, which was told then, and the run was to end there.
+    Full,
     /// Whatever else ends a run of a program.
     Run(cli::Ending<'a>),
 }
@@ -30,13 +32,14 @@ impl<'a> Ending<'a> {
         }
     }
 
-    /// The exit status of the program: 1 to 7.
+    /// The exit status of the program: 1 to 8.
     pub fn status(&self) -> u8
         ensures { result ≡ store_status_of self.now }
     {
         match self {
             Ending::Store(_) => 5,
             Ending::Failed(_) => 6,
+            Ending::Full => 8,
             Ending::Run(ending) => ending.status(),
         }
     }
@@ -63,7 +66,7 @@ impl<'a> fmt::Display for Ending<'a> {
         match self {
             Ending::Store(error) => writeln!(f, "store: {error}"),
             Ending::Failed(Some(ending)) | Ending::Run(ending) => write!(f, "{ending}"),
-            Ending::Failed(None) => Ok(()),
+            Ending::Failed(None) | Ending::Full => Ok(()),
         }
     }
 }

@@ -8,11 +8,11 @@ ghost use Rattle.clap.specs.Walk.{first_of, rows_of};
 ghost use Rattle.epochlog.specs.Epochs.{max_capacity};
 ghost use Rattle.serving.specs.Serving.{max_scripts};
 ghost use Rattle.cli.specs.Arguments.{ArePaired, Chooses, IsNumberOf, IsReadBy};
-ghost use Rattle.osdmapstore.specs.CommandLine.{many_rule, begin_rule, open_or_begin_rule, keep_rule, wary_rule, backup_rule};
+ghost use Rattle.osdmapstore.specs.CommandLine.{many_rule, begin_rule, open_or_begin_rule, keep_rule, wary_rule, end_rule, backup_rule};
 ghost use Rattle.osdmapstore.specs.CommandLine.{store_rule, any_scripts_rule, store_program, store_app};
 ghost use Rattle.osdmapstore.specs.CommandLine.{store_program_of_sessions, store_program_with_maps};
-ghost use Rattle.osdmapstore.specs.CommandLine.{store_program_with_options};
-ghost use Rattle.osdmapstore.specs.CommandLine.{AreStoreFound, IsWaryIn, ReadsStoreLine};
+ghost use Rattle.osdmapstore.specs.CommandLine.{store_program_with_changes, store_program_with_options};
+ghost use Rattle.osdmapstore.specs.CommandLine.{AreStoreFound, IsGivenIn, ReadsStoreLine};
 
 use crate::choices::Options;
 use clap::{Arg, ArgAction, ArgMatches, Command, value_parser};
@@ -31,7 +31,8 @@ const ABOUT: &str =
     "Keeps the OSDMap of a Ceph-like cluster in a file that outlives it: makes or opens the store, tells its epoch, \
 answers the lines of scripts over it, one line each, all scripts at once, and ends. Each change is in the file before \
 it is answered. Statuses: 0 done, 1 command line, 2 map refused, 3 file or output, 4 memory, 5 store, 6 a change was \
-not stored. The formats of stores, maps, changes, scripts and answers are in docs/FORMATS.md.";
+not stored, 7 a change was lost, 8 the journal is full (--end-when-full). The formats of stores, maps, changes, \
+scripts and answers are in docs/FORMATS.md.";
 
 /// `--journal N`, as many as may be where it is not given: a store is to run on.
 fn journal_option<'a>(alloc: Global) -> Arg<'a>
@@ -92,6 +93,16 @@ fn wary_option<'a>(alloc: Global) -> Arg<'a>
         .help(
             "Syncs each change twice, for a disk that may tear what it writes in a crash of the machine",
         )
+        .action(ArgAction::SetTrue)
+}
+
+/// `--end-when-full`.
+fn end_option<'a>(alloc: Global) -> Arg<'a>
+    ensures { IsReadBy end_rule result }
+{
+    Arg::new(alloc, "end-when-full")
+        .long("end-when-full")
+        .help("Ends the run, with status 8, once it has taken as many changes as --journal says")
         .action(ArgAction::SetTrue)
 }
 
@@ -159,14 +170,21 @@ fn program_with_maps<'a>(alloc: Global) -> Result<Command<'a>, AllocError>
         .arg(open_or_begin_option(alloc))
 }
 
-/// The program with all its options.
-fn program_with_options<'a>(alloc: Global) -> Result<Command<'a>, AllocError>
-    ensures { IfOk result (λ c. app_of c ≡ store_program_with_options) }
+/// The program with how changes are kept, too.
+fn program_with_changes<'a>(alloc: Global) -> Result<Command<'a>, AllocError>
+    ensures { IfOk result (λ c. app_of c ≡ store_program_with_changes) }
 {
     program_with_maps(alloc)?
         .arg(keep_option(alloc))?
         .arg(wary_option(alloc))?
-        .arg(backup_option(alloc))
+        .arg(end_option(alloc))
+}
+
+/// The program with all its options.
+fn program_with_options<'a>(alloc: Global) -> Result<Command<'a>, AllocError>
+    ensures { IfOk result (λ c. app_of c ≡ store_program_with_options) }
+{
+    program_with_changes(alloc)?.arg(backup_option(alloc))
 }
 
 /// The command line that the program takes.
@@ -201,11 +219,18 @@ fn keep_in(matches: &ArgMatches<'_>) -> Option<u32>
     matches.get_one("keep")
 }
 
-/// Whether each change is to be synced twice: where `--wary` was given.
+/// Whether each change is to be synced twice.
 fn wary_in(matches: &ArgMatches<'_>) -> bool
-    ensures { IsWaryIn (rows_of (found_of matches.now)) result }
+    ensures { IsGivenIn (codes "wary") (rows_of (found_of matches.now)) result }
 {
     matches.get_flag("wary")
+}
+
+/// Whether the run is to end once its journal is full.
+fn end_in(matches: &ArgMatches<'_>) -> bool
+    ensures { IsGivenIn (codes "end-when-full") (rows_of (found_of matches.now)) result }
+{
+    matches.get_flag("end-when-full")
 }
 
 /// The options of words that the parser took. A value that it had to find and did not is told as out of memory.
@@ -223,6 +248,7 @@ fn options_in(alloc: Global, matches: &ArgMatches<'_>) -> Result<Options, LineEr
         open_or_begin: copied_path(alloc, matches, "open-or-begin")?,
         keep: keep_in(matches),
         wary: wary_in(matches),
+        end_when_full: end_in(matches),
         backup: copied_path(alloc, matches, "backup")?,
         store: String::from_str(alloc, store)?,
         sessions,
@@ -230,11 +256,12 @@ fn options_in(alloc: Global, matches: &ArgMatches<'_>) -> Result<Options, LineEr
 }
 
 /// What a command line asks for, the program's name first: `[--journal N] [--stock] [--to ANSWERS].. [--begin MAP]
-/// [--open-or-begin MAP] [--keep N] [--wary] [--backup FILE] STORE [SCRIPT..]`, the journal's N from 1 to 65,536, and
-/// 65,536 where it is not given, the other from 0 to 1,000,000, at most 64 scripts, and as many files of answers or
-/// none. The options are those that the parser finds in the words, exactly where it has nothing against them and the
-/// numbers are so; `Help` where help was asked for, `Usage` for what else the parser has against the words, `TooMany`
-/// where there are more scripts, `Unpaired` where there are files of answers but another number of them, else `Memory`.
+/// [--open-or-begin MAP] [--keep N] [--wary] [--end-when-full] [--backup FILE] STORE [SCRIPT..]`, the journal's N from
+/// 1 to 65,536, and 65,536 where it is not given, the other from 0 to 1,000,000, at most 64 scripts, and as many files
+/// of answers or none. The options are those that the parser finds in the words, exactly where it has nothing against
+/// them and the numbers are so; `Help` where help was asked for, `Usage` for what else the parser has against the
+/// words, `TooMany` where there are more scripts, `Unpaired` where there are files of answers but another number of
+/// them, else `Memory`.
 pub fn options(alloc: Global, words: &[String]) -> Result<Options, LineError>
     ensures least { IfOk result (λ o. 1 ≤ o.sessions.journal) }
     ensures most { IfOk result (λ o. o.sessions.journal ≤ max_capacity) }

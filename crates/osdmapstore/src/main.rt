@@ -1,7 +1,7 @@
 //! Answers scripts of commands over the map of a cluster that a file keeps, so that no change that was answered is lost
 //! in a crash: `osdmapstore [--journal N] [--stock] [--to ANSWERS].. [--begin MAP] [--open-or-begin MAP] [--keep N]
-//! [--wary] [--backup FILE] STORE [SCRIPT..]`, where `-` for a script is standard input, and for a file of answers standard
-//! output.
+//! [--wary] [--end-when-full] [--backup FILE] STORE [SCRIPT..]`, where `-` for a script is standard input, and for a
+//! file of answers standard output.
 //!
 //! - `line`, `choices`: what a command line asks for
 //! - `ending`: how a run ends
@@ -164,7 +164,7 @@ fn end_store<'a, R, W: Start>(
     ensures { IfErr result (λ e. 2 ≤ store_status_of e) }
 {
     match journalstore::fold_log(system.host, path, start) {
-        Ok(()) | Err(StoreError::InUse) => Ok(()),
+        Ok(_) | Err(StoreError::InUse) => Ok(()),
         Err(error) => Err(Ending::Store(OpenError::Store(error))),
     }
 }
@@ -253,16 +253,46 @@ fn end_of<'a>(witness: &Witness, done: Result<(), cli::Ending<'a>>) -> Result<()
 }
 
 /// Two witnesses who note together.
-fn two_witnesses(host: &HostRuntime) -> Result<(Witness, Witness), AllocError> {
-    let witness = Witness::new(host)?;
+fn two_witnesses(host: &HostRuntime, journal: u32) -> Result<(Witness, Witness), AllocError> {
+    let witness = Witness::new(host, journal)?;
     let other = witness.again()?;
     Ok((witness, other))
 }
 
+/// What the sessions are played from; they end once the journal is full, where the command line says so.
+fn parts_by<'a, R: Files + AllocGlobal>(
+    system: &System<'_, R>,
+    options: &'a Options,
+    witness: &Witness,
+) -> Result<Vec<Part>, cli::Ending<'a>>
+    requires { ArePaired (vec_len options.now.sessions.scripts) (vec_len options.now.sessions.answers) }
+    ensures count { IfOk result (λ parts. vec_len parts ≡ vec_len options.now.sessions.scripts) }
+    ensures status { IfErr result (λ e. 2 ≤ status_of e) }
+{
+    let sessions = &options.sessions;
+    if !options.end_when_full {
+        return parts_of(system, sessions, None);
+    }
+    match witness.full_mark() {
+        Ok(mark) => parts_of(system, sessions, Some(&mark)),
+        Err(_) => Err(cli::Ending::Memory),
+    }
+}
+
+/// How a run ends that has gone well: as one whose journal was full, where it was to end there.
+fn end_full<'a>(options: &Options, witness: &Witness) -> Result<(), Ending<'a>>
+    ensures { IfErr result (λ e. 2 ≤ store_status_of e) }
+{
+    if options.end_when_full && witness.has_seen_full() {
+        return Err(Ending::Full);
+    }
+    Ok(())
+}
+
 /// Reads the scripts, makes or opens the store, tells its epoch, and puts the answers to standard output; where there
 /// are files of answers, the epoch alone, and each session opens its own. At the end the store's file is the store by
-/// itself, if nothing failed. `starts` stands for what the files hold before a store is made, as one is opened, and at
-/// the end.
+/// itself, if nothing failed; only then is it told that the journal was full. `starts` stands for what the files hold
+/// before a store is made, as one is opened, and at the end.
 fn work<
     'a,
     R: Files + AllocGlobal + Print + Eprint + Threads + Wait + Sync,
@@ -282,14 +312,15 @@ fn work<
         return back_up(system, path, to.as_str(), start);
     }
     let sessions = &options.sessions;
-    let parts = parts_of(system, sessions)?;
-    let Ok((witness, other)) = two_witnesses(system.host) else {
+    let Ok((witness, other)) = two_witnesses(system.host, sessions.journal) else {
         return Err(Ending::Run(cli::Ending::Memory));
     };
+    let parts = parts_by(system, options, &witness)?;
     let first = begin_or_open(system, options, (none, start), other)?;
     let done = serve_store(system, sessions, first, &parts);
     end_of(&witness, done)?;
-    end_store(system, path, left)
+    end_store(system, path, left)?;
+    end_full(options, &witness)
 }
 
 /// Does the work of a command line over files of which nothing is known, by the reading of a crash that it asks for.

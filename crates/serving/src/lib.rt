@@ -5,7 +5,7 @@
 //! - `runs`, `players`: a run of sessions, and their threads
 //! - `playing`, `left`: what one thread plays, and what is left of its session
 //! - `system`: what a run has of the machine
-//! - `out`: a writer as a sink
+//! - `out`, `until`: a writer as a sink, and a reader that ends at a mark
 //! - `failure`, `fault`: what of a live session fails, and why nothing is served
 #![tactic(auto)]
 
@@ -18,6 +18,7 @@ mod players;
 mod playing;
 mod runs;
 mod system;
+mod until;
 
 pub use failure::Failure;
 pub use fault::Fault;

@@ -2,6 +2,8 @@
 
 use crate::failure::Failure;
 use std::io::{Stdin, Stdout};
+use std::sync::Arc;
+use std::sync::atomic::AtomicBool;
 
 /// Where the lines of a live session come from.
 #[derive(Drop)]
@@ -21,13 +23,15 @@ pub enum Target {
     File(String),
 }
 
-/// The two ends of a live session.
+/// The two ends of a live session, and what ends it beside the end of its lines.
 #[derive(Drop)]
 pub struct Streams {
     /// Where its lines come from.
     pub source: Source,
     /// Where its answers go.
     pub target: Target,
+    /// Once this is set it reads no more lines.
+    pub end: Option<Arc<AtomicBool>>,
 }
 
 /// What a session is played from, and where its answers go.

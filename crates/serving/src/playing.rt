@@ -10,6 +10,7 @@ use crate::failure::Failure;
 use crate::left::Left;
 use crate::out::Out;
 use crate::part::{Part, Source, Streams, Target};
+use crate::until::Until;
 use keeping::Keeps;
 use monitor::Member;
 use refusal::Memory;
@@ -150,11 +151,14 @@ fn play_streams<R: Wait, K: Keeps + Drop>(
 {
     match &streams.source {
         Source::Standard(input) => {
-            let mut reader = *input;
+            let mut reader = Until::new(*input, streams);
             play_to_target(stage, member, number, &mut reader, &streams.target)
         }
         Source::File(path) => match fs::open(stage.host, path.as_str()) {
-            Ok(mut file) => play_to_target(stage, member, number, &mut file, &streams.target),
+            Ok(file) => {
+                let mut reader = Until::new(file, streams);
+                play_to_target(stage, member, number, &mut reader, &streams.target)
+            }
             Err(error) => Err(open_failure(&error, SessionError::Read)),
         },
     }

@@ -7,4 +7,4 @@ use Rattle.mapstore.proofs.opening.hold.Goals as goal
 pub returns-clause-holds : goal.returns-clause-holds
 returns-clause-holds g c =
     held_first g.S.Store _ (texts_read c.args.past.now) c.args.map.now.map (ap texts_read c.of.ensures)
-    (ap (λ (s : StoredMap). s.map) c.of-2.ensures) c.requires.stands c.requires.holds c.epoch.ensures
+    (ap (λ (s : StoredMap). s.map) c.of-2.ensures) c.requires.stands c.requires.holds c.epoch-epoch.ensures
