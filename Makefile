@@ -52,6 +52,7 @@ checked:
 # The proofs go by on the screen, function by function; where one fails, nothing is run.
 prove:
 	@cd crates/osdmapd && rt run $(if $(CPU),--cpu $(CPU)) -- $(EXAMPLE)/map.json $(EXAMPLE)/script.txt >&2
+	@python3 tools/proved.py $(PROGRAM)
 
 run: prove
 	@echo 'The proved program answers:' >&2
@@ -59,6 +60,7 @@ run: prove
 
 store:
 	@cd crates/osdmapstore && rt run $(if $(CPU),--cpu $(CPU)) -- --help
+	@python3 tools/proved.py $(STORE)
 
 test: gate runs
 

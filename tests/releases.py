@@ -2,6 +2,7 @@
 
 from __future__ import annotations
 
+import json
 import os
 import pathlib
 import subprocess
@@ -64,6 +65,21 @@ class Releases(Case):
             self.assertEqual((done.returncode, done.stderr), (0, ""))
             guide = (TOP / "docs" / "CEPH.md").read_text()
             self.assertIn("".join(f"    {line}\n" for line in done.stdout.splitlines()[:18]), guide)
+            commit = ran("git", "rev-parse", "HEAD").stdout.strip()
+            self.tells_proof(release, dumps, True, f"was proved at commit {commit[:12]}")
+            told = release / "bin" / "osdmapd.proved"
+            told.write_text(told.read_text().replace('"sha256": "', '"sha256": "0'))
+            self.tells_proof(release, dumps, False, "is not known to be proved")
+            told.write_text("{")
+            self.tells_proof(release, dumps, False, "is not known to be proved")
+
+    def tells_proof(self, release: pathlib.Path, dumps: list[str], is_proved: bool, words: str) -> None:
+        """Asks that a plan says of the program that judged it whether it was proved, in its head and as JSON."""
+        plan = ran(sys.executable, "tools/rekhuso", "plan", *dumps, folder=release)
+        self.assertIn(f"#         which {words}", plan.stdout, plan.stderr)
+        told = json.loads(ran(sys.executable, "tools/rekhuso", "plan", *dumps, "--json", folder=release).stdout)
+        own = told["made_by"]
+        self.assertEqual((own["proved"], own["commit"] is not None), (is_proved, is_proved))
 
     def test_refusals(self) -> None:
         """No release of a log that tells no gate, or one with failures"""

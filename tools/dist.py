@@ -14,6 +14,7 @@ from __future__ import annotations
 import gzip
 import hashlib
 import io
+import json
 import os
 import pathlib
 import re
@@ -23,6 +24,7 @@ import tarfile
 import tempfile
 
 import backend
+from proved import proof
 
 TOP = pathlib.Path(__file__).resolve().parent.parent
 # What a release has of the tree beside the programs: files, and folders with what git keeps of them.
@@ -80,6 +82,9 @@ def files_of(log: pathlib.Path, programs: list[pathlib.Path]) -> dict[str, bytes
     found.update({path: text.encode() for path, text in backend.shared().items()})
     found["gate.log"] = log.read_bytes()
     found["COMMIT"] = git("rev-parse", "HEAD").encode()
+    # The tree has no changes, and its gate has passed.
+    for program in programs:
+        found[f"bin/{program.name}.proved"] = (json.dumps(proof(program.read_bytes())) + "\n").encode()
     return found
 
 
@@ -92,12 +97,12 @@ def pack(log: pathlib.Path, programs: list[pathlib.Path], folder: pathlib.Path) 
     """Writes the archive into a folder, and tells its path."""
     files, base = files_of(log, programs), backend.base()
     files["SHA256SUMS"] = sums(files)
-    held = io.BytesIO()
+    held, runs = io.BytesIO(), {f"bin/{program.name}" for program in programs}
     with tarfile.open(fileobj=held, mode="w", format=tarfile.PAX_FORMAT) as archive:
         for name, content in sorted(files.items()):
             entry = tarfile.TarInfo(f"{base}/{name}")
             entry.size, entry.mtime = len(content), backend.moment()
-            entry.mode = 0o755 if name.startswith("bin/") else 0o644
+            entry.mode = 0o755 if name in runs else 0o644
             archive.addfile(entry, io.BytesIO(content))
     folder.mkdir(parents=True, exist_ok=True)
     path = folder / f"{base}-{os.uname().machine}.tar.gz"

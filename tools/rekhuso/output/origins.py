@@ -13,8 +13,11 @@ from ..cluster.names import Names
 from ..plans.guards import NO_GUARDS, Guards, guards_of, guards_of_map
 from ..program.maps import Map, Program
 from ..program.process import chosen, told_by
+from ..program.proofs import Proof, proof_of
 from ..values import SLOTS
 
+# What is told of a program of which nothing beside it says that it was proved.
+NOT_KNOWN = "is not known to be proved: no file beside it says so of this sum"
 # What is read at once of a file.
 BLOCK = 1 << 20
 
@@ -29,12 +32,14 @@ class ReadFile:
 
 @dataclass(frozen=True, **SLOTS)
 class Origin:
-    """Where scripts come from: the program that judged them, by its version and its sum; the files of the cluster, the
-    first with its epoch, and the fsid that it tells, if it tells one; and the guards, none where none are wanted.
+    """Where scripts come from: the program that judged them, by its version and its sum, and that it was proved, where
+    that is known; the files of the cluster, the first with its epoch, and the fsid that it tells, if it tells one; and
+    the guards, none where none are wanted.
     """
 
     program: str
     sum: str | None
+    proof: Proof | None
     files: list[ReadFile]
     epoch: int
     fsid: str | None
@@ -43,6 +48,7 @@ class Origin:
     def notes(self) -> list[str]:
         """What is told at the head of a script."""
         lines = [f"made by rekhuso {__version__} with {self.program}{sum_words(self.sum)}"]
+        lines.append(f"        which {NOT_KNOWN if self.proof is None else f'was {self.proof.words()}'}")
         fsid = "no fsid, so the script does not ask which cluster it is given to"
         of = f" of epoch {self.epoch}, {fsid if self.fsid is None else f'fsid {self.fsid}'}"
         for at, own in enumerate(self.files):
@@ -52,7 +58,13 @@ class Origin:
     def parts(self) -> dict[str, object]:
         """The same as JSON has it."""
         return {
-            "made_by": {"rekhuso": __version__, "program": self.program, "sha256": self.sum},
+            "made_by": {
+                "rekhuso": __version__,
+                "program": self.program,
+                "sha256": self.sum,
+                "proved": self.proof is not None,
+                "commit": None if self.proof is None else self.proof.commit,
+            },
             "of": [{"file": own.path, "sha256": own.sum} for own in self.files],
             "fsid": self.fsid,
         }
@@ -87,7 +99,16 @@ def origin(program: Program, paths: Iterable[str | None], epoch: int, guards: Gu
     told = told_by([str(own), "--version"])
     version = next(iter(told.output.splitlines()), "a program that tells no version")
     files = [ReadFile(path, sum_of_file(path)) for path in paths if path is not None]
-    return Origin(version, sum_of_file(str(own)), files, epoch, guards.fsid, guards if is_guarded else NO_GUARDS)
+    found = sum_of_file(str(own))
+    return Origin(
+        program=version,
+        sum=found,
+        proof=proof_of(str(own), found),
+        files=files,
+        epoch=epoch,
+        fsid=guards.fsid,
+        guards=guards if is_guarded else NO_GUARDS,
+    )
 
 
 def origin_of(program: Program, paths: Iterable[str | None], cluster: Cluster, is_guarded: bool) -> Origin:
