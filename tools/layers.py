@@ -3,9 +3,9 @@
 
     layers.py [ROOT]
 
-A crate has a line, with its floor: how many crates the longest chain below it has. Of the crates that it stands on, those
-are named below which no other of them leads; the rest follow. So have the sub-packages of the tools, and what stands beside
-them.
+A crate has a line, with its floor: how many crates the longest chain below it has. Of the crates that it stands on,
+those are named below which no other of them leads; the rest follow. So have the sub-packages of the tools, and what
+stands beside them.
 """
 
 from __future__ import annotations
@@ -53,12 +53,14 @@ def taken(place: pathlib.Path, names: list[str]) -> Iterator[pathlib.Path]:
 
 
 def tools(root: pathlib.Path) -> Below:
-    """The sub-packages of the tools that each takes names from. The modules beside them are of two kinds: those that take
-    names from a sub-package, also by another module, and those that take none."""
+    """The sub-packages of the tools that each takes names from. The modules beside them are of two kinds: those that
+    take names from a sub-package, also by another module, and those that take none.
+    """
     folder = root / "tools" / "rekhuso"
     graph = modules(folder)
 
     def part(file: pathlib.Path) -> str:
+        """The sub-package of a file, or of which kind it is beside them."""
         inner = file.relative_to(folder).parts
         takes = any(len(one.relative_to(folder).parts) > 1 for one in reach(graph, file))
         return inner[0] if len(inner) > 1 else KNOWN.get(file.stem, ABOVE if takes else BESIDE)
