@@ -77,6 +77,7 @@ def floors(below: Below) -> dict[str, int]:
     found: dict[str, int] = {}
 
     def floor(name: str) -> int:
+        """How many the longest chain below one has."""
         if name not in found:
             found[name] = max((floor(other) + 1 for other in below[name]), default=0)
         return found[name]

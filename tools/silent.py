@@ -3,8 +3,8 @@
 
     silent.py [ROOT]
 
-Tests are left out, with the crate that has nothing but tests. So are the functions of an `impl` of a trait, which have the
-trait's clauses; those that a trait declares are not.
+Tests are left out, with the crate that has nothing but tests. So are the functions of an `impl` of a trait, which have
+the trait's clauses; those that a trait declares are not.
 """
 
 from __future__ import annotations

@@ -20,8 +20,8 @@ from .names import Names, named, step_words
 Places = Sequence["int | None"]
 
 
-# The codes of what is wrong with exceptions: by a step of the rule, by an OSD, by the group, by the exceptions, and what
-# keeps a group from being held or moved beside that.
+# The codes of what is wrong with exceptions: by a step of the rule, by an OSD, by the group, by the exceptions; and of
+# what keeps a group from being held or moved beside that.
 CODES = (
     *("choose", "chooseleaf", "take", "no-rule", "out", "weightless", "gone", "no-group", "shrinks"),
     *("idle-set", "set-length", "idle-pairs", "not-chosen", "empty-place", "no-osd"),

@@ -1,5 +1,5 @@
-"""The words by which commands are put out: as the way back, in one file or in parts, as JSON, or without guards. They are
-the same for `plan`, `hold`, `release` and `drain`.
+"""The words by which commands are put out: as the way back, in one file or in parts, as JSON, or without guards. They
+are the same for `plan`, `hold`, `release` and `drain`.
 """
 
 from __future__ import annotations
