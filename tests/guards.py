@@ -326,8 +326,8 @@ class Monitors(ShellCase):
                 self.wrong(monitor, scripts, "a pool grown")
 
     def test_right_scripts(self) -> None:
-        """Behind its guards a part runs and its undoing leads back; a hold runs with its change, and each group is where
-        it was; a release runs over the dumps of then, and the exceptions are those that it leaves."""
+        """Behind its guards a part runs and its undoing leads back; a hold runs with its change, and each group is
+        where it was; a release runs over the dumps of then, and the exceptions are those that it leaves."""
         self.needs("ceph-mon", bool(self.folders()))
         for tools in self.folders():
             with self.subTest(tools=tools), ReefMonitor(tools, OSDMAP) as monitor:
