@@ -1,5 +1,5 @@
-"""How the modules of tools/rekhuso and the crates stand on one another, as docs/DESIGN.md draws it, and what the names and
-values of the modules are."""
+"""How the modules of tools/rekhuso and the crates stand on one another, as docs/DESIGN.md draws it, and what the names
+and values of the modules are."""
 
 from __future__ import annotations
 
