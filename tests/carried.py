@@ -7,9 +7,12 @@ import json
 import pathlib
 from collections import Counter
 
+from rekhuso.plans.guards import is_guard
+
 from tests.clusters import STOCK, Json, copied, raised, with_commands
 from tests.drains import BUILT, come_in, reweighted, weights_of
 from tests.holds import sets_of
+from tests.schemas import faults_of
 from tests.tool_cases import StockCase
 
 NOBODY = 2147483647
@@ -178,6 +181,58 @@ class CarriedPlans(StockCase):
             stat.update(state="active+clean", up=stat["up"][::-1], acting=stat["acting"][::-1])
         path = self.tools.put("led", late)
         self.assertEqual(self.tools.run("next", *cluster.files(), plan, "--pgs", path)[0], DONE)
+
+    def test_guards(self) -> None:
+        """What is put out asks, before anything is given, whether the cluster is the one of the dumps and has their
+        CRUSH map and groups; a stage has the guards of its script. --no-guard leaves them out."""
+        own = copied(STOCK[BUILT])
+        own["osd_dump"].update(fsid="3360e166-03f7-4c83-ab03-2704d1bb31a8", crush_version=61)
+        cluster = Cluster(self, own)
+        self.output("drain", *cluster.files(), "osd.7", "--batch", 20, "--to", self.tools.folder / "plan")
+        plan = self.tools.put("plan.json", self.output("plan", *cluster.files(), "--json"))
+        drain = self.tools.put("drain.json", self.output("drain", *cluster.files(), "osd.7", "--json"))
+        pgs, files = cluster.pgs(), cluster.files()
+        for given in (plan, "plan", drain):
+            words = ["next", *files, given, "--pgs", pgs]
+            lines = self.tools.run(*words)[1].splitlines()
+            asked = [line for line in lines if is_guard(line)]
+            for part in (f"^fsid {cluster.dump['fsid']}$", "^crush_version 61$", "^pool 2 "):
+                self.assertEqual(sum(part in line for line in asked), 1, (given, part))
+            self.assertEqual(lines[lines.index("set -e") + 1 :][: len(asked)], asked)
+            bare = self.tools.run(*words, "--no-guard")[1].splitlines()
+            self.assertEqual(bare, lines if given == "plan" else [line for line in lines if line not in asked])
+
+    def test_page(self) -> None:
+        """The page of `report --next` tells what `next` does of a plan amid its way: what is done, under way and left,
+        and OSD by OSD what is still to come and to go. In the end nothing is, and without --next nothing is told."""
+        cluster = Cluster(self, STOCK[BUILT])
+        self.output("drain", *cluster.files(), "osd.7", "--batch", 20, "--to", self.tools.folder / "plan")
+        told = self.json("drain", *cluster.files(), "osd.7", "--batch", 20)
+        cluster.give(told["begin"]["change"] + told["begin"]["commands"] + told["parts"][0]["commands"])
+        cluster.work(5)
+        found = self.tools.run("next", *cluster.files(), "plan", "--pgs", cluster.pgs(), "--json")
+        self.assertEqual(found[0], WAITS)
+        own = json.loads(found[1])
+        self.assertEqual(faults_of(own), [])
+        to_go = {osd["id"]: osd["to_go"] for osd in own["osds"]}
+        self.assertEqual(to_go.pop(7), told["places"] - 5)
+        self.assertEqual(sum(to_go.values()), 0)
+        page = self.output("report", *cluster.files(), "--next", "plan", "--pgs", cluster.pgs())
+        self.assertIn(f'<progress max="{own["done"] + own["under_way"]["groups"] + own["left"]["groups"]}"', page)
+        for line in found[2].splitlines():
+            self.assertIn(f"<p>{line}</p>", page)
+        for osd in own["osds"]:
+            cells = (f"osd.{osd['id']}", osd["under_way"], osd["left"], osd["to_go"])
+            self.assertIn(f"<tr>{''.join(f'<td>{cell}</td>' for cell in cells)}</tr>", page)
+        self.assertNotIn("carried out", self.output("report", *cluster.files()))
+
+    def test_page_words(self) -> None:
+        """Words of `report` of which one would be passed over are errors of use."""
+        files = self.dumps(BUILT)
+        words = ["report", *files, "--pgs", files[0]]
+        self.is_told(self.tools.run(*words), 2, "--pgs tells where the data is, and goes with --next", words)
+        words = ["report", files[0], "--next", "plan.sh"]
+        self.is_told(self.tools.run(*words), 2, "--next goes with two dumps alone", words)
 
     def test_report(self) -> None:
         """A report has the dumps in it, and without --pgs its temporary sets tell what moves."""

@@ -10,7 +10,7 @@ from collections.abc import Callable
 
 from tests.ceph_monitor import WORST
 from tests.clusters import Json, commands, copied, kept
-from tests.drains import come_in
+from tests.drains import come_in, reweighted
 from tests.holds import RECORDS, WEIGHT, lines_in, sets_of
 from tests.tool_cases import StockCase
 
@@ -94,6 +94,28 @@ class Chosen(StockCase):
         _, error = self.ran("hold", "--at", path, *files)
         self.assertIn(f"{path}: {len(torn)} groups are degraded or not active: ", error)
         self.assertIn("; they stay as they are\n", error)
+
+    def test_affinities(self) -> None:
+        """Where affinities choose primaries, these stand first in the sets that are told: no command has more pairs
+        than by the dumps of before, which tell no such order."""
+        own = WORST["affinity"]
+        osds = [
+            item["id"] for bucket in own["crush_dump"]["buckets"] if bucket["name"] == "h1" for item in bucket["items"]
+        ]
+        new = self.tools.put("n", reweighted(own["crush_dump"], dict.fromkeys(osds, 3.0)))
+        files = [self.tools.put("o", own["osd_dump"]), self.tools.put("c", own["crush_dump"])]
+        stats = [{"pgid": group, "acting": osds, "state": "active+clean"} for group, (osds, _) in own["up"].items()]
+        path = self.tools.put("pgs", {"pg_stats": stats})
+        told, wanted = self.json("hold", "--at", path, files[0], new), self.json("hold", *files, files[0], new)
+        self.assertGreater(len(wanted["commands"]), 10)
+        for key in ("undo", "groups", "places", "held", "left"):
+            self.assertEqual(told[key], wanted[key], key)
+        lines, others = (
+            {line.split(" ")[3]: line.split(" ")[4:] for line in own["commands"]} for own in (told, wanted)
+        )
+        self.assertEqual(lines.keys(), others.keys())
+        longer = {group: (own, others[group]) for group, own in lines.items() if len(own) > len(others[group])}
+        self.assertEqual(longer, {})
 
     def held(self) -> tuple[Json, list[pathlib.Path]]:
         """A cluster whose groups are held behind a change, and its dumps."""

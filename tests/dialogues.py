@@ -110,6 +110,22 @@ def put_older(folder: pathlib.Path) -> None:
         (folder / f"{name}.json").write_text(json.dumps(dump))
 
 
+def put_others(folder: pathlib.Path) -> None:
+    """Puts the dumps of a cluster of six racks into a folder, and of the one there an OSD dump in which a disk is out,
+    and a dump of groups that tells where the data is.
+    """
+    own, cluster = kept("operators.json.gz")["clusters"]["racks"], copied(STOCK["001-three-hosts"])
+    stats = [{"pgid": group, "acting": osds, "state": "active+clean"} for group, (osds, _) in cluster["up"].items()]
+    cluster["osd_dump"]["osds"][3]["weight"] = 0
+    for name, value in (
+        ("racks-osd", own["osd_dump"]),
+        ("racks-crush", own["crush_dump"]),
+        ("out-osd", cluster["osd_dump"]),
+        ("pgs", {"pg_stats": stats}),
+    ):
+        (folder / f"{name}.json").write_text(json.dumps(value))
+
+
 def like(answer: str, line: str) -> bool:
     """Whether a line that was put out is the one of a page, where two points at its end stand for the rest."""
     return answer.startswith(line[:-3]) if line.endswith("..\n") else answer == line
@@ -201,6 +217,7 @@ class Dialogues(Case):
             small = with_weights(json.loads((folder / "crush.json").read_text()), dict.fromkeys((10, 11), 29802))
             (folder / "small.json").write_text(json.dumps(small))
             put_older(folder)
+            put_others(folder)
             command = folder / "rekhuso"
             command.write_text(f'#!/bin/sh\nexec {sys.executable} {TOOLS} --program {self.program} "$@"\n')
             command.chmod(0o755)
@@ -219,7 +236,7 @@ class Dialogues(Case):
                     stderr=subprocess.STDOUT,
                     text=True,
                     check=False,
-                    timeout=SECONDS,
+                    timeout=4 * SECONDS,
                     env=os.environ | {"PATH": f"{folder}:{os.environ['PATH']}"},
                 )
                 told = done.stdout.splitlines(keepends=True)

@@ -337,12 +337,25 @@ class BadHolds(StockCase):
                 self.is_told(self.tools.run("hold", "--at", path, *files), 1, f"{path}: {told}", told)
 
     def test_moving_clusters(self) -> None:
-        """A cluster that moves already or is degraded is told first, and held or released with --anyway alone."""
+        """A cluster that is degraded, or of which 5 % of the places are still to move, is told first, and held or
+        released with --anyway alone; fewer places are told alone."""
         record = RECORDS[WEIGHT]
-        moving = dict(record["osd_dump"], pg_temp=[{"pgid": "1.0", "osds": [1, 2, 3]}])
+        sets = {group: entry[0] for group, entry in record["up"].items()}
+        places, few = sum(map(len, sets.values())), sum(map(len, sets.values())) // 20
+        away = [
+            {"pgid": group, "osds": [next(osd for osd in range(9) if osd not in own), *own[1:]]}
+            for group, own in sets.items()
+        ]
+        moving, still = (dict(record["osd_dump"], pg_temp=away[:count]) for count in (few + 1, few))
         down = dict(record["osd_dump"], osds=[dict(osd, up=int(osd["osd"] != 3)) for osd in moving["osds"]])
         crush, new = self.tools.put("c", record["crush_dump"]), self.tools.put("n", record["new_crush_dump"])
-        for dump, told in ((moving, "the cluster moves already: 1 group has a pg_temp"), (down, "an outage: 1 OSD is")):
+        path, line = self.tools.put("o", still), f"the cluster moves already: {few} groups are served by temporary sets"
+        for words in (["hold", path, crush, "--crush", new], ["release", path, crush]):
+            output, error = self.ran(*words)
+            self.assertStarts(error, f"{line} (pg_temp), and {few} of {places} places are still to move")
+            self.assertTrue(lines_in(output))
+        line = f"the cluster moves already: {few + 1} groups are served by temporary sets (pg_temp), and "
+        for dump, told in ((moving, line), (down, "an outage: 1 OSD is")):
             path = self.tools.put("o", dump)
             for words, what in (
                 (["hold", path, crush, "--crush", new], "held"),

@@ -1,6 +1,6 @@
-"""Scripts of `plan`, `hold` and `release`, which the program judges before they are put out: faults are planted in the
-tools, one at a time, and each ends in status 1 and no command. And what the program says of exceptions (`fkept`):
-beside what a real monitor made of them, and beside the tools' own reading, which names the reasons."""
+"""Scripts of `plan`, `hold`, `release` and `drain`, which the program judges before they are put out: faults are
+planted in the tools, one at a time, and each ends in status 1 and no command. And what the program says of exceptions
+(`fkept`): beside what a real monitor made of them, and beside the tools' own reading, which names the reasons."""
 
 from __future__ import annotations
 
@@ -17,9 +17,10 @@ from rekhuso.cluster.cleanup import cleaned
 from rekhuso.cluster.evenness import Spread
 from rekhuso.cluster.judge import judge_of_map, present_of
 from rekhuso.command_line import parser
+from rekhuso.commands import drain as drain_command
 from rekhuso.commands import hold as hold_command
 from rekhuso.output import plan_scripts
-from rekhuso.plans import hold, plan, rounds, step_order, steps
+from rekhuso.plans import drain, hold, plan, rounds, step_order, steps
 from rekhuso.plans.bounds import Fullness, Measure, Step
 from rekhuso.plans.printed_commands import commands_in
 from rekhuso.plans.steps import PlanStep
@@ -100,6 +101,46 @@ def cut(text: str) -> str:
     lines = text.splitlines()
     last = max(at for at, line in enumerate(lines) if line.startswith("ceph osd pg-upmap-items"))
     return "\n".join(lines[:last] + lines[last + 1 :]) + "\n"
+
+
+def to_drained(targets: dict[str, list[int | None]]) -> dict[str, list[int | None]]:
+    """Where groups go, of which the first that may goes to osd.2, which is drained, and not from it."""
+    group = next(group for group, places in targets.items() if 2 not in places)
+    at = next(at for at, osd in enumerate(targets[group]) if osd is not None and osd < 4)
+    return {**targets, group: [*targets[group][:at], 2, *targets[group][at + 1 :]]}
+
+
+def with_first_again(texts: list[str]) -> list[str]:
+    """The texts of parts, of which the last has the first command of the first once more."""
+    line = next(line for line in texts[0].splitlines() if line.startswith("ceph osd pg-upmap-items "))
+    return [*texts[:-1], f"{texts[-1]}{line}\n"]
+
+
+def moved_line(text: str, word: str, to: int) -> str:
+    """A text whose first line with a word stands elsewhere."""
+    lines = text.splitlines()
+    lines.insert(to, lines.pop(next(at for at, line in enumerate(lines) if word in line)))
+    return "\n".join(lines) + "\n"
+
+
+def with_text(change: Callable[[str], str]) -> Callable[[Any], Any]:
+    """A function that makes a text, which is changed."""
+    return lambda own: lambda *given: change(own(*given))
+
+
+def lacking(text: str, word: str) -> str:
+    """A text without its first line with a word."""
+    return text.replace(next(line for line in text.splitlines() if word in line) + "\n", "", 1)
+
+
+# Faults in a script of `drain` that changes weights.
+STAGE_FAULTS: list[tuple[str, Callable[[str], str]]] = [
+    ("a weight is not given", lambda text: lacking(text, "crush reweight")),
+    ("weights come last", lambda text: moved_line(text, "crush reweight", len(text.splitlines()))),
+    ("norebalance is not set", lambda text: lacking(text, "set norebalance")),
+    ("norebalance is unset first", lambda text: moved_line(text, "unset norebalance", 0)),
+    ("the balancer stays on", lambda text: lacking(text, "balancer off")),
+]
 
 
 def with_other_line(own: Any) -> Any:
@@ -238,6 +279,26 @@ class Judged(StockCase):
         faults: list[Planted] = [("the text lacks a command", plan_scripts.Script, "text", without_last)]
         self.are_refused(faults, "release", *files)
         self.are_refused(UNDO_FAULTS[:1], "release", *files, "--undo")
+
+    def test_drains(self) -> None:
+        """So do faults in how `drain` makes its scripts: a place that comes to a drained OSD, a group that goes twice,
+        a part or a command that is missing, a weight that is not given or too late, and groups that are not held."""
+        words = ["drain", *self.dumps(EVEN), "osd.7", "osd.2", "--batch", 40, "--json"]
+        parts: list[Planted] = [
+            ("a place comes to a drained OSD", drain, "targets_of", lambda own: lambda *given: to_drained(own(*given))),
+            ("a group goes twice", drain_command, "part_scripts", spoilt(with_first_again)),
+            ("a part is missing", drain_command, "part_scripts", spoilt(lambda texts: texts[:-1])),
+            ("a part comes twice", drain_command, "part_scripts", spoilt(lambda texts: [*texts, texts[0]])),
+            ("the text lacks a command", plan_scripts.Script, "text", without_last),
+            ("pairs lead to another OSD", drain, "exception_commands", spoilt(first_spoilt(12))),
+        ]
+        stages: list[Planted] = [
+            (f"{about}: {word}", drain_command, word, with_text(change))
+            for word in ("first_script", "last_script", "undo_script")
+            for about, change in STAGE_FAULTS
+        ]
+        self.are_refused([*parts, *stages], *words)
+        self.are_refused([("a group is not held", hold, "exception_commands", spoilt(lambda lines: lines[1:]))], *words)
 
     def test_again(self) -> None:
         """A plan made again over the first may have more commands, and so may the next; soon there are none."""

@@ -182,7 +182,9 @@ class Scripts(TogetherCase):
     def test_written_whole(self) -> None:
         """`--to` leaves what stood there where a hold is refused."""
         before = self.script.read_text()
-        moving = self.tools.put("moving", dict(self.dump, pg_temp=[{"pgid": "1.0", "osds": [1, 2, 3]}]))
+        groups = [f"{pool['pool']}.{at:x}" for pool in self.dump["pools"] for at in range(pool["pg_num"])]
+        away = [{"pgid": group, "osds": [1, 2, 3]} for group in groups]
+        moving = self.tools.put("moving", dict(self.dump, pg_temp=away))
         words = ["--crush", self.folder / "new.json", "--to", self.script]
         self.ran("hold", moving, self.files[1], *words, status=1)
         self.assertEqual(self.script.read_text(), before)

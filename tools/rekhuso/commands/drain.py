@@ -16,6 +16,7 @@ import sys
 from dataclasses import dataclass
 
 from ..cluster.cluster import Cluster
+from ..cluster.data_files import DataFiles
 from ..cluster.imports import imported
 from ..cluster.moving_advice import HELD, compat_words
 from ..cluster.reports import with_both
@@ -25,8 +26,8 @@ from ..faults import Fault, Misuse
 from ..output.drain_words import (
     FIRST,
     LAST,
-    KEEPING,
     WORD,
+    around,
     drain_lines,
     first_script,
     last_script,
@@ -39,10 +40,11 @@ from ..output.plan_scripts import part_file, put_scripts
 from ..plans.drain import Drain, DrainWish, drain_of
 from ..plans.drain_checks import check_once
 from ..plans.hold_checks import check_still, moving_words
-from ..plans.movement import place_bytes
+from ..plans.movement import PlaceBytes, place_bytes
 from ..program.maps import Program
 from ..values import SLOTS
 from .arguments import MORE, Arguments, Commands, add_dump_options, set_work, source_of
+from .data_words import add_data_words, data_files, data_of
 from .put_words import PutWords, add_put_words, put_words
 from .whatif_words import IN_FORCE, osds_named
 
@@ -50,7 +52,8 @@ from .whatif_words import IN_FORCE, osds_named
 @dataclass(frozen=True, **SLOTS)
 class DrainOptions:
     """The dumps of the cluster; the words that name what is drained; whether places keep their device class; whether
-    groups go to where a plan has them; whether a cluster that moves is drained too; and how it is put out.
+    groups go to where a plan has them; whether a cluster that moves is drained too; how it is put out; and the files
+    that tell what pools hold.
     """
 
     source: Source
@@ -59,6 +62,7 @@ class DrainOptions:
     is_even: bool
     is_anyway: bool
     output: PutWords
+    data: DataFiles
 
 
 def options_of(arguments: Arguments) -> DrainOptions:
@@ -79,6 +83,7 @@ def options_of(arguments: Arguments) -> DrainOptions:
         is_even=own.even,
         is_anyway=own.anyway,
         output=output,
+        data=data_files(own),
     )
 
 
@@ -90,8 +95,18 @@ def osds_of(view: ClusterView, words: tuple[str, ...]) -> list[int]:
     return sorted(osd for own in found for osd in own)
 
 
-def drained(options: DrainOptions) -> tuple[Drain, Cluster]:
-    """How the OSDs are drained, and the cluster. A fault where they cannot be."""
+@dataclass(frozen=True, **SLOTS)
+class Drained:
+    """How OSDs are drained, the cluster, what the places of its groups hold, and where the scripts come from."""
+
+    found: Drain
+    cluster: Cluster
+    weights: PlaceBytes
+    origin: Origin
+
+
+def drained(options: DrainOptions) -> Drained:
+    """How the OSDs are drained. A fault where they cannot be."""
     found, program = imported(options.source.dumps()), options.source.program
     cluster = found.cluster
     if cluster.has_weight_set:
@@ -103,25 +118,31 @@ def drained(options: DrainOptions) -> tuple[Drain, Cluster]:
     check_still(moving_words(cluster, program), options.is_anyway, "drained")
     view = ClusterView(found.maps, cluster.all_names(), found)
     osds = osds_of(view, options.words)
-    wish = DrainWish(osds, options.is_kept, options.is_even, options.output.parts.size(cluster))
-    return drain_of(cluster, wish, program), cluster
+    source = options.source
+    data = data_of(options.data, cluster, source.pools is None)
+    wish = DrainWish(osds, options.is_kept, options.is_even, options.output.parts.size(cluster), data)
+    files = [*source.paths, source.tree, options.data.df, options.data.pgs]
+    drain = drain_of(cluster, wish, program)
+    origin = origin_of(program, files, cluster, options.output.is_guarded)
+    return Drained(drain, cluster, place_bytes(drain.pools, data), origin)
 
 
-def files_of(found: Drain, cluster: Cluster, program: Program, origin: Origin) -> dict[str, str]:
+def files_of(own: Drained, program: Program) -> dict[str, str]:
     """The scripts by the names of their files, once the program has judged each as printed."""
     # Behind the first one the CRUSH map is another one.
-    later, names = origin.later(None), cluster.all_names()
-    first, parts, last = first_script(found, origin), part_scripts(found, names, later), last_script(found, later)
-    found.check_stage(found.begin, first, KEEPING, program)
+    found, later, names = own.found, own.origin.later(None), own.cluster.all_names()
+    first, last = first_script(found, own.origin), last_script(found, later)
+    parts = part_scripts(found, names, own.weights, later)
+    found.check_stage(found.begin, first, around, program)
     found.check_parts(parts)
-    found.check_stage(found.end, last, KEEPING, program)
+    found.check_stage(found.end, last, around, program)
     numbered = {part_file(WORD, number, len(parts)): text for number, text in enumerate(parts, 1)}
     return {FIRST: first, **numbered, LAST: last}
 
 
-def put_drain_json(found: Drain, origin: Origin) -> None:
+def put_drain_json(own: Drained) -> None:
     """Puts out the scripts' commands, what they move and the way back as one object."""
-    weights = place_bytes(found.pools, None)
+    found, weights = own.found, own.weights
     begin, end = found.begin, found.end
     put_json(
         "drain",
@@ -130,6 +151,7 @@ def put_drain_json(found: Drain, origin: Origin) -> None:
         places=found.places,
         moving=weights.moving(found.steps),
         fullest={"before": found.before.fill(), "after": found.after.fill()},
+        data=None if found.fill is None else found.fill.parts(),
         begin={"change": begin.change, "commands": begin.hold.commands, "left": begin.hold.told()["left"]},
         parts=[
             {
@@ -144,20 +166,18 @@ def put_drain_json(found: Drain, origin: Origin) -> None:
             {"group": group, "code": why.code, "step": why.step, "why": why.why} for group, why in found.waiting.items()
         ],
         undo={"change": found.undo.change, "commands": found.undo.commands},
-        **origin.parts(),
+        **own.origin.parts(),
     )
 
 
 def work(options: DrainOptions) -> None:
     """Tells how OSDs are drained."""
-    found, cluster = drained(options)
-    source = options.source
-    origin = origin_of(source.program, [*source.paths, source.tree], cluster, options.output.is_guarded)
-    files, back = files_of(found, cluster, source.program, origin), undo_script(found, origin.later(None))
-    found.undo.check(back, KEEPING)
-    print("\n".join(drain_lines(found, cluster.all_names())), file=sys.stderr)
+    own = drained(options)
+    files, back = files_of(own, options.source.program), undo_script(own.found, own.origin.later(None))
+    own.found.undo.check(back, around)
+    print("\n".join(drain_lines(own.found, own.cluster.all_names(), own.weights)), file=sys.stderr)
     if options.output.is_json:
-        put_drain_json(found, origin)
+        put_drain_json(own)
         return
     word, files = ("undo", {part_file("undo", 1, 1): back}) if options.output.is_undo else (WORD, files)
     if options.output.to is None:
@@ -182,6 +202,7 @@ def add_to(commands_of: Commands) -> None:
     own.add_argument("--anyway", action="store_true", help="also where the cluster moves already, or amid an outage")
     to = "the folder of the scripts: drain-000.sh, drain-001.sh, .. and drain-end.sh"
     add_put_words(own, "the way back to the dumps, whichever script was run", to, True)
+    add_data_words(own)
     add_dump_options(own)
     own.set_defaults(names=None)
     set_work(own, options_of, work)

@@ -22,7 +22,8 @@ from ..cluster.cluster import Cluster
 from ..cluster.imports import ImportedCluster, imported
 from ..cluster.sources import Source
 from ..cluster.unrest import growth_words
-from ..cluster.view import ClusterView, sets_in
+from ..cluster.told_view import in_placed_order
+from ..cluster.view import ClusterView, as_in_ceph
 from ..faults import Fault, Misuse
 from ..output.hold_heads import HoldChange, head_of
 from ..output.hold_words import ROUND, hold_lines, hold_script, idle_lines
@@ -30,8 +31,9 @@ from ..output.json_output import put_json
 from ..output.origins import Origin, origin_of
 from ..output.prepare_words import BEFORE_WORD, prepare_lines, prepare_scripts
 from ..plans.hold import Hold, Sides, counts_in, hold_of, mapped_sets, sides_of_change
-from ..plans.hold_checks import check_counts, check_sides, check_still, check_torn, moving_words, told_words
+from ..plans.hold_checks import check_counts, check_sides, check_still, check_torn, much_moving, told_words
 from ..plans.prepare import prepare_of
+from ..plans.question import sets_of_maps
 from ..values import SLOTS
 from .arguments import MORE, Arguments, Commands, add_dump_options, reading, set_work, source_of
 from .change_words import ChangeWords, add_change_words, change_words, files_and_change
@@ -124,7 +126,7 @@ def cluster_in(source: Source) -> ImportedCluster:
 def change_by_words(options: HoldOptions) -> tuple[Cluster, list[Command]]:
     """A cluster, and the commands of a change that is still to come."""
     found, program = cluster_in(options.old), options.old.program
-    check_still(moving_words(found.cluster, program) + growth_words(found.cluster), options.is_anyway, "held")
+    check_still(much_moving(found.cluster, program) + growth_words(found.cluster), options.is_anyway, "held")
     view = ClusterView(found.maps, found.cluster.all_names(), found)
     steps = options.asked.commands(view, found.cluster, program)
     check_counts(found.cluster, steps)
@@ -137,10 +139,11 @@ def sides_at(options: HoldOptions, path: str) -> tuple[Sides, frozenset[str]]:
     new, is_whole = found.cluster, options.old.pools is None
     data = group_data_in(path, new, is_whole)
     view = ClusterView(found.maps, new.all_names(), found)
-    unlike = told_words(view, sets_in(view, program), path, is_whole)
+    ups = sets_of_maps(view.maps, program)
+    unlike = told_words(view, as_in_ceph(view, ups, program), path, is_whole)
     torn = check_torn(data.torn, len(data.sets), path, options.is_anyway)
     check_still(growth_words(new) + unlike, options.is_anyway, "held")
-    return Sides(data.sets, data.counts, new, frozenset(), None), torn
+    return Sides(in_placed_order(view, data.sets, ups), data.counts, new, frozenset(), None), torn
 
 
 def sides_of(options: HoldOptions) -> tuple[Sides, frozenset[str]]:
@@ -151,7 +154,7 @@ def sides_of(options: HoldOptions) -> tuple[Sides, frozenset[str]]:
         return sides_of_change(*change_by_words(options), options.old.program), frozenset()
     old, new, program = cluster_in(options.old).cluster, cluster_in(options.new).cluster, options.old.program
     check_sides(old, new)
-    check_still(moving_words(old, program) + growth_words(new), options.is_anyway, "held")
+    check_still(much_moving(old, program) + growth_words(new), options.is_anyway, "held")
     return Sides(mapped_sets(old, program), counts_in(old), new, frozenset(), old), frozenset()
 
 

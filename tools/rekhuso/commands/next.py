@@ -9,7 +9,7 @@ Without --most a part comes once the groups of the one before have moved. With -
 as fewer than N places are under way, and --osd-most M lets no OSD take part in more than M moves at a time. Standard
 error tells what is done, under way and left. Status 0: all is done; 10: commands are put out; 11: nothing may be
 given now; 1: the cluster has changed, or is amid an outage. The program judges the commands as printed, over the
-cluster as it is now.
+cluster as it is now, and their guards ask that it is so still when they are given.
 """
 
 from __future__ import annotations
@@ -31,17 +31,19 @@ from ..files import json_of
 from ..output.json_output import put_json
 from ..output.next_words import next_lines
 from ..plans.carried import parts_of_plan
+from ..plans.guards import NO_GUARDS, guards_of
 from ..plans.next_step import NextStep, NextWish, Progress, next_step
 from ..plans.question import sets_of_maps
 from ..values import SLOTS
-from .arguments import MORE, Arguments, Commands, add_dump_options, add_json, reading, set_work, source_of
+from .arguments import MORE, Arguments, Commands, add_dump_options, add_guard, add_json, reading, set_work, source_of
 from .part_words import PartWords, add_part_words, number_of_moves
 
 
 @dataclass(frozen=True, **SLOTS)
 class NextOptions:
     """The dumps of the cluster as it is now, or its report; the plan; where the data is, if it is told; how many places
-    are under way at most, and in how many moves OSDs and hosts take part; and whether all is told as JSON.
+    are under way at most, and in how many moves OSDs and hosts take part; and whether all is told as JSON, or without
+    guards.
     """
 
     source: Source
@@ -51,6 +53,7 @@ class NextOptions:
     most: int | None
     parts: PartWords
     is_json: bool
+    is_guarded: bool
 
 
 def options_of(arguments: Arguments) -> NextOptions:
@@ -63,7 +66,8 @@ def options_of(arguments: Arguments) -> NextOptions:
     if own.report is None and own.pgs is None:
         raise Misuse("next wants --pgs, which tells where the data is; or --report")
     parts = PartWords(None, own.osd_most, own.host_most)
-    return NextOptions(source_of(own, own.words[:-1]), own.words[-1], own.report, own.pgs, own.most, parts, own.json)
+    forms = own.report, own.pgs, own.most, parts, own.json, not own.no_guard
+    return NextOptions(source_of(own, own.words[:-1]), own.words[-1], *forms)
 
 
 def cluster_of(options: NextOptions) -> Cluster:
@@ -106,14 +110,17 @@ def put_next_json(found: NextStep, epoch: int) -> None:
         left=progress_parts(found.left),
         moving=found.moving,
         left_out=[{"command": line, "why": why} for line, why in found.left_out],
-        osds=[{"id": osd, "under_way": come, "left": left} for osd, (come, left) in found.by_osd.items()],
+        osds=[
+            {"id": osd, "under_way": come, "left": left, "to_go": go} for osd, (come, left, go) in found.by_osd.items()
+        ],
     )
 
 
 def work(options: NextOptions) -> int:
     """Tells what of a plan may be done now, and ends with the status that says so."""
     parts, cluster = parts_of_plan(options.plan), cluster_of(options)
-    wish = NextWish(options.most, options.parts.size(cluster).busy)
+    guards = guards_of(cluster) if options.is_guarded else NO_GUARDS
+    wish = NextWish(options.most, options.parts.size(cluster).busy, guards)
     found = next_step(cluster, parts, states_of(options, cluster), wish, options.source.program)
     print("\n".join(next_lines(found)), file=sys.stderr)
     if options.is_json:
@@ -144,6 +151,7 @@ def add_to(commands_of: Commands) -> None:
     )
     add_part_words(own)
     add_dump_options(own)
+    add_guard(own)
     add_json(own)
     own.set_defaults(names=None)
     set_work(own, options_of, work)

@@ -15,20 +15,23 @@ from dataclasses import dataclass
 
 from ..cluster.aftermath import exceptions_in
 from ..cluster.cluster import Cluster
+from ..cluster.data_files import DataFiles
 from ..cluster.dump_forms import OSD_DUMP
 from ..cluster.dump_types import OsdDump
 from ..cluster.dumps import first_lines, read_dump
 from ..cluster.imports import imported
+from ..cluster.pool_data import Data
 from ..cluster.releases import least_client
 from ..cluster.reports import OSD_PART, dump_in_report
 from ..cluster.sources import Source
 from ..faults import Fault
 from ..files import json_of
+from ..output.byte_words import byte_lines
 from ..output.json_output import put_json
 from ..output.origins import Origin, origin_of
 from ..output.plan_scripts import Script, WATCH, balancer_words, client_words, part_file
 from ..output.release_words import peak_words, release_lines
-from ..plans.hold_checks import check_still, moving_words
+from ..plans.hold_checks import check_still, much_moving
 from ..plans.movement import place_bytes
 from ..plans.release import Goal, Release, release_of
 from ..program.maps import Exceptions, altered
@@ -45,6 +48,7 @@ from .arguments import (
     set_work,
     source_of,
 )
+from .data_words import add_data_words, data_files, data_of
 from .filter_words import FilterWords, add_filter_words, filter_words
 from .put_words import PutWords, add_put_words, file_or_folder, put_words
 
@@ -54,7 +58,8 @@ UNDO = "undo:   the same words with --undo, over the same files, which are to be
 @dataclass(frozen=True, **SLOTS)
 class ReleaseOptions:
     """The dumps of the cluster as it is held; the OSD dump whose exceptions are kept, if there is one; whether the way
-    leads to a plan; whether a cluster that moves is released too; how it is put out; and which groups are let go.
+    leads to a plan; whether a cluster that moves is released too; how it is put out; which groups are let go; and the
+    files that tell what pools hold.
     """
 
     source: Source
@@ -63,6 +68,7 @@ class ReleaseOptions:
     is_anyway: bool
     output: PutWords
     chosen: FilterWords
+    data: DataFiles
 
 
 def options_of(arguments: Arguments) -> ReleaseOptions:
@@ -75,6 +81,7 @@ def options_of(arguments: Arguments) -> ReleaseOptions:
         is_anyway=own.anyway,
         output=put_words(own, True, own.batch is not None, "--batch"),
         chosen=filter_words(own, own.leaves),
+        data=data_files(own),
     )
 
 
@@ -98,11 +105,23 @@ def kept_in(path: str | None, cluster: Cluster) -> Exceptions:
     }
 
 
-def script_of(found: Release, cluster: Cluster, options: ReleaseOptions, origin: Origin, number: int) -> Script:
+@dataclass(frozen=True, **SLOTS)
+class Round:
+    """What stands round the commands of all parts: the cluster, what its pools hold, and where the scripts come
+    from.
+    """
+
+    cluster: Cluster
+    data: Data | None
+    origin: Origin
+
+
+def script_of(found: Release, round_: Round, options: ReleaseOptions, number: int) -> Script:
     """What stands round the commands of a part."""
+    cluster, data, origin = round_.cluster, round_.data, round_.origin
     count, names = len(found.parts), cluster.all_names()
     part = f", part {number} of {count}" if options.output.is_parted else ""
-    weights = place_bytes(found.pools, None)
+    weights = place_bytes(found.pools, data)
     before = balancer_words(None) + client_words(least_client(cluster.osd_dump)) + WATCH
     if options.output.is_undo:
         title = f"The way back from a release over epoch {found.epoch}{part}"
@@ -114,12 +133,12 @@ def script_of(found: Release, cluster: Cluster, options: ReleaseOptions, origin:
     return Script(title, before + notes, weights, names, origin)
 
 
-def scripts_of(found: Release, cluster: Cluster, options: ReleaseOptions, origin: Origin) -> list[str]:
+def scripts_of(found: Release, round_: Round, options: ReleaseOptions) -> list[str]:
     """The parts, or the way back from them, a script each."""
     texts = []
     for number, part in enumerate(found.parts, 1):
         steps = [step.undone() for step in part] if options.output.is_undo else part
-        texts.append(script_of(found, cluster, options, origin, number).text(steps))
+        texts.append(script_of(found, round_, options, number).text(steps))
     return texts
 
 
@@ -135,9 +154,9 @@ def check_printed(found: Release, scripts: list[str], options: ReleaseOptions) -
         found.printed.check_scripts(scripts, found.lengths, [])
 
 
-def put_release_json(found: Release, origin: Origin) -> None:
+def put_release_json(found: Release, data: Data | None, origin: Origin) -> None:
     """Puts out the parts, their undoing and what they move as one object."""
-    weights = place_bytes(found.pools, None)
+    weights = place_bytes(found.pools, data)
     put_json(
         "release",
         found.epoch,
@@ -145,6 +164,7 @@ def put_release_json(found: Release, origin: Origin) -> None:
         stay=found.stay,
         left_alone=[own.parts() for own in found.alone.values()],
         fullest={"before": found.before, "after": found.after},
+        data=None if found.fill is None else found.fill.parts(),
         parts=[
             {
                 "commands": [line for step in part for line in step.commands],
@@ -162,15 +182,18 @@ def work(options: ReleaseOptions) -> None:
     """Tells the way from what is held."""
     source, program = options.source, options.source.program
     cluster = imported(source.dumps()).cluster
-    check_still(moving_words(cluster, program), options.is_anyway, "released")
-    goal = Goal(kept_in(options.keep, cluster), options.is_planned, options.is_anyway, options.chosen.chosen(cluster))
+    check_still(much_moving(cluster, program), options.is_anyway, "released")
+    data, chosen = data_of(options.data, cluster, source.pools is None), options.chosen.chosen(cluster)
+    goal = Goal(kept_in(options.keep, cluster), options.is_planned, options.is_anyway, chosen, data)
     found = release_of(cluster, goal, options.output.parts.size(cluster), program)
-    origin = origin_of(program, [*source.paths, source.tree, options.keep], cluster, options.output.is_guarded)
-    scripts = scripts_of(found, cluster, options, origin)
+    files = [*source.paths, source.tree, options.keep, options.data.df, options.data.pgs]
+    origin = origin_of(program, files, cluster, options.output.is_guarded)
+    scripts = scripts_of(found, Round(cluster, data, origin), options)
     check_printed(found, scripts, options)
-    print("\n".join(release_lines(found)), file=sys.stderr)
+    weights = place_bytes(found.pools, data)
+    print("\n".join(release_lines(found, weights) + byte_lines(found.fill, cluster.all_names())), file=sys.stderr)
     if options.output.is_json:
-        put_release_json(found, origin)
+        put_release_json(found, data, origin)
     else:
         options.output.put("release", scripts)
 
@@ -196,6 +219,7 @@ def add_to(commands_of: Commands) -> None:
         help="only groups are let go that then leave one of these OSDs: it gives back what exceptions brought there",
     )
     add_filter_words(own, "let go")
+    add_data_words(own)
     add_dump_options(own)
     own.set_defaults(names=None)
     set_work(own, options_of, work)

@@ -8,8 +8,9 @@ from ..plans.drain_checks import osds_listed
 from ..plans.drain_stages import Stage
 from ..plans.guards import AT_COMMANDS
 from ..plans.holding import Held
-from ..plans.movement import place_bytes
+from ..plans.movement import PlaceBytes
 from ..words import counted, some
+from .byte_words import byte_lines, bytes_moved
 from .fill_words import fill_words
 from .flow_words import move_words
 from .hold_words import BEGIN, ENDING
@@ -18,8 +19,6 @@ from .plan_scripts import Script, WATCH, balancer_words, client_words, comments,
 
 # What the files of a drain are named by, and the names of those before and behind its parts.
 WORD, FIRST, LAST = "drain", "drain-000.sh", "drain-end.sh"
-# The lines of a script of a change that are no commands on exceptions.
-KEEPING = [*BEGIN, AT_COMMANDS, *ENDING]
 UNDO = "undo:   the same words with --undo, over the same files, which are to be kept: whichever script was run"
 NEXT = [
     "after:  nothing moves: ceph status tells no misplaced group; then the parts in their order, each once the groups",
@@ -57,14 +56,13 @@ def waiting_words(found: Drain) -> list[str]:
     ]
 
 
-def drain_lines(found: Drain, names: Names) -> list[str]:
+def drain_lines(found: Drain, names: Names, weights: PlaceBytes) -> list[str]:
     """What a drain moves, how full OSDs get, and which groups cannot be held or go."""
-    steps = [step for step in found.steps if step.is_moving()]
-    come = sum(len(step.places_come()) for step in steps)
+    moving = weights.moving(found.steps)
     parts = counted(len(found.parts), "part")
     lie = f"{counted(found.places, 'place')} of groups lie{'s' if found.places == 1 else ''} on {osds_in(found)}"
     lines = [
-        f"{lie}; {move_words(len(steps), come)} in {parts}, each group once"
+        f"{lie}; {move_words(moving['groups'], moving['places'])} in {parts}, each group once{bytes_moved(moving)}"
         if found.places
         else f"nothing lies on {osds_in(found)}"
     ]
@@ -76,12 +74,18 @@ def drain_lines(found: Drain, names: Names) -> list[str]:
     lines.append(f"by the shares without them: {fill_words(found.after.fill(), names)}, after")
     if peak is not None:
         lines.append(f"meanwhile osd.{peak['osd']} has {counted(peak['groups'], 'group')}, where none has gone yet")
-    return lines
+    return lines + byte_lines(found.fill, names)
+
+
+def around(change: list[str]) -> tuple[list[str], list[str]]:
+    """The lines before and behind the commands on exceptions of a script that makes a change."""
+    return [*BEGIN, *change, AT_COMMANDS], ENDING
 
 
 def stage_script(title: str, notes: list[str], stage: Stage, origin: Origin) -> str:
     """The script of a change that keeps data where it is."""
-    lines = [*BEGIN, *stage.change, AT_COMMANDS, *stage.hold.commands, *ENDING]
+    before, behind = around(stage.change)
+    lines = [*before, *stage.hold.commands, *behind]
     above = comments([title, *origin.notes(), *client_words(stage.hold.client), *notes])
     return "\n".join([*above, "set -e", *origin.guards.lines(stage.hold.commands), *lines]) + "\n"
 
@@ -106,9 +110,9 @@ def last_script(found: Drain, origin: Origin) -> str:
     return stage_script(title, [order, GONE, UNDO], found.end, origin)
 
 
-def part_scripts(found: Drain, names: Names, origin: Origin) -> list[str]:
+def part_scripts(found: Drain, names: Names, weights: PlaceBytes, origin: Origin) -> list[str]:
     """The scripts of the parts."""
-    weights, count, texts = place_bytes(found.pools, None), len(found.parts), []
+    count, texts = len(found.parts), []
     for number, part in enumerate(found.parts, 1):
         peak, words = found.peaks[number - 1], "no OSD gets a place"
         if peak["osd"] is not None:
@@ -134,6 +138,7 @@ def undo_script(found: Drain, origin: Origin) -> str:
     notes = [
         "after:  these OSDs have their weights and all groups the exceptions of that epoch; what has moved comes back"
     ]
-    lines = [*BEGIN, *found.undo.change, AT_COMMANDS, *found.undo.commands, *ENDING]
+    before, behind = around(found.undo.change)
+    lines = [*before, *found.undo.commands, *behind]
     guards = origin.guards.lines(found.undo.commands)
     return "\n".join([*comments([title, *origin.notes(), *notes]), "set -e", *guards, *lines]) + "\n"

@@ -5,6 +5,7 @@ from __future__ import annotations
 import json
 from collections.abc import Mapping, Sequence
 from contextlib import ExitStack
+from dataclasses import dataclass
 
 from ..cluster.disks import Disk
 from ..cluster.flows import flows
@@ -12,14 +13,17 @@ from ..cluster.moving import erasure_pools
 from ..cluster.names import Names, named
 from ..cluster.shares import Shares, spread_parts
 from ..cluster.view import ClusterView
+from ..plans.next_step import NextStep
 from ..plans.plan import DEFAULT_WISH, misplaced_in, opened, outage_in, planned
 from ..plans.steps import PlanStep
 from ..program.answers import Up
 from ..program.maps import Map, Program, altered, entries_of, group_key, with_all_up
 from ..program.questions import up_sets
+from ..values import SLOTS
 from ..words import counted, escaped
 from .df_table import DISK_COLUMNS, cells, full_words, node, nodes, summary, total_row, with_reach
 from .flow_picture import flow_picture
+from .next_page import NEXT_COLUMNS, next_head, next_rows
 from .osd_picture import osd_picture
 from .plan_words import page_words
 
@@ -31,6 +35,7 @@ table{border-collapse:collapse;width:100%;display:block;overflow-x:auto}
 td,th{padding:.2rem .6rem;text-align:right;border-bottom:1px solid #8884;white-space:nowrap}
 .sorts th{cursor:pointer}
 td:first-child,th:first-child{text-align:left;white-space:pre;position:sticky;left:0;background:Canvas}
+progress{width:100%}
 pre,figure{overflow-x:auto;margin:0}h2{margin-top:2rem}figure svg{width:100%;height:auto;display:block}
 .pair,.sides{display:grid;grid-template-columns:minmax(0,1fr);gap:1rem;align-items:start}
 .tree{max-height:48rem;overflow-y:auto}
@@ -162,6 +167,14 @@ def plan_part(whole: ClusterView, sets: dict[str, Up], program: Program) -> str:
     return f"{told}{plan_pictures(whole, sets, outcome.steps)}<pre>{escaped(chr(10).join(plan))}</pre>"
 
 
+def next_part(found: NextStep | None, names: Names) -> list[str]:
+    """How far a plan is that is carried out, as the page has it; nothing where none is."""
+    if found is None:
+        return []
+    rows = next_rows(found, names)
+    return ["<h2>The plan that is carried out</h2>", next_head(found), table(NEXT_COLUMNS, rows) if rows else ""]
+
+
 def heading(value: Map, shares: Shares, title: str) -> str:
     """What the page begins with."""
     even, pools = spread_parts(shares), len(value["pools"])
@@ -173,13 +186,23 @@ def heading(value: Map, shares: Shares, title: str) -> str:
     )
 
 
-def page(whole: ClusterView, sets: dict[str, Up], program: Program, title: str, disks: Mapping[int, Disk]) -> str:
-    """The page of a lawful map or of a cluster, with the disks that are known, as HTML."""
-    columns = page_columns(disks)
+@dataclass(frozen=True, **SLOTS)
+class PageParts:
+    """What stands on a page beside a map: its title, the disks that are known, and how far a plan is."""
+
+    title: str
+    disks: Mapping[int, Disk]
+    carried: NextStep | None
+
+
+def page(whole: ClusterView, sets: dict[str, Up], program: Program, own: PageParts) -> str:
+    """The page of a lawful map or of a cluster as HTML."""
+    title, disks, columns = own.title, own.disks, page_columns(own.disks)
     names, value, shares = whole.names, whole.tree, whole.shares(sets)
-    excepted = [row for own in whole.maps for row in exception_rows(own, program)]
+    excepted = [row for of in whole.maps for row in exception_rows(of, program)]
     parts = [
         heading(value, shares, title),
+        *next_part(own.carried, names),
         '<h2>Where the groups are</h2><div class="pair">',
         figure(osd_picture([shares], names, [""], disks)),
         '<div class="tree">',

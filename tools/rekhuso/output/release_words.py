@@ -2,8 +2,10 @@
 
 from __future__ import annotations
 
+from ..plans.movement import PlaceBytes
 from ..plans.release import Release
 from ..words import counted, some
+from .byte_words import bytes_moved
 from .flow_words import move_words
 
 
@@ -18,11 +20,13 @@ def peak_words(found: Release, number: int) -> str:
     )
 
 
-def release_lines(found: Release) -> list[str]:
+def release_lines(found: Release, weights: PlaceBytes) -> list[str]:
     """What all parts move."""
-    steps = [step for step in found.steps if step.is_moving()]
-    places = sum(len(step.places_come()) for step in steps)
-    lines = [f"{move_words(len(steps), places)} in {counted(len(found.parts), 'part')}, each group once"]
+    moving = weights.moving(found.steps)
+    lines = [
+        f"{move_words(moving['groups'], moving['places'])} in {counted(len(found.parts), 'part')}, each group once"
+    ]
+    lines[0] += bytes_moved(moving)
     if found.stay:
         verb, they = ("stays", "it") if len(found.stay) == 1 else ("stay", "they")
         words = f"{counted(len(found.stay), 'group')} {verb} held, as {they} would have fewer places without: "

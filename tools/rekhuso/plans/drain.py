@@ -8,9 +8,10 @@ The program is asked for the sets at each of these, and nothing is put out where
 from __future__ import annotations
 
 from collections import Counter
-from collections.abc import Iterable, Mapping, Sequence
+from collections.abc import Callable, Iterable, Mapping, Sequence
 from contextlib import ExitStack
 from dataclasses import dataclass
+from typing import List, Tuple
 
 from ..cluster.aftermath import exceptions_in, raw_sets, with_exceptions
 from ..cluster.cleanup import excepted_groups
@@ -22,6 +23,7 @@ from ..cluster.judge import Places, Reason
 from ..cluster.map_parts import map_clusters
 from ..cluster.moving import erasure_pools
 from ..cluster.names import set_words
+from ..cluster.pool_data import Data
 from ..cluster.view import view_of_cluster
 from ..faults import Fault
 from ..program.answers import Up
@@ -29,7 +31,8 @@ from ..program.maps import Exceptions, Map, Pool, Program, entries_of, group_key
 from ..values import SLOTS
 from .bounds import Measure
 from .busy import PartSize
-from .drain_checks import check_rules, check_short, check_weights
+from .byte_spread import ByteFill, byte_shares, measure_between, places_by_group
+from .drain_checks import check_each_once, check_round, check_rules, check_short, check_weights
 from .drain_stages import Stage, after_all, back_change, back_commands, ending, first_stage, last_stage
 from .drain_targets import Chooser, Emptied, lying_on
 from .holding import Holder, Way
@@ -44,6 +47,8 @@ from .release import counts_of, peaks_of
 from .step_order import StepOrder, parts_in_order
 from .steps import PlanStep, by_group
 
+# The lines before and behind the commands of a script that makes a change, by the commands of that change.
+Around = Callable[[List[str]], Tuple[List[str], List[str]]]
 # What an OSD that is emptied counts as having beyond what it has, so that it is the fullest.
 FIRST = 1e9
 
@@ -51,13 +56,14 @@ FIRST = 1e9
 @dataclass(frozen=True, **SLOTS)
 class DrainWish:
     """What is asked for: the OSDs that are emptied, whether places keep their device class, whether groups go to where
-    a plan has them, and how large a part is.
+    a plan has them, how large a part is, and what the pools hold, where that is known.
     """
 
     osds: list[int]
     is_kept: bool
     is_even: bool
     size: PartSize
+    data: Data | None = None
 
 
 @dataclass(frozen=True, **SLOTS)
@@ -71,9 +77,11 @@ class Undo:
     printed: Printed
     after: list[Map]
 
-    def check(self, script: str, others: Iterable[str]) -> None:
+    def check(self, script: str, around: Around) -> None:
         """Has the program judge the way back as printed. A fault where it does not lead back."""
-        self.printed.check_undo(commands_in(script, [*others, *self.change]), self.after)
+        before, behind = around(self.change)
+        check_round(script, before, behind)
+        self.printed.check_undo(commands_in(script, [*before, *behind]), self.after)
 
 
 @dataclass(frozen=True, **SLOTS)
@@ -81,7 +89,7 @@ class Drain:
     """How OSDs are emptied: these, how many places lie on them, and the pools; the change with which it begins; the
     steps in their parts, how full the fullest OSD gets while each of them moves, and by what they are judged, in parts
     of so many commands; the change with which it ends, and why groups wait for that; what the OSDs have before and
-    after, beside their shares once these are gone; and the way back.
+    after, beside their shares once these are gone; the way back; and the same by bytes, where these are known.
     """
 
     epoch: int
@@ -98,23 +106,29 @@ class Drain:
     before: Spread
     after: Spread
     undo: Undo
+    fill: ByteFill | None
 
     @property
     def steps(self) -> list[PlanStep]:
         """All steps in their order."""
         return [step for part in self.parts for step in part]
 
-    def check_stage(self, stage: Stage, script: str, others: Sequence[str], program: Program) -> None:
-        """Has the program judge the script of a change. A fault where it does not hold what it is told to hold."""
-        stage.hold.printed(program).check_scripts([script], [], [], [*others, *stage.change])
+    def check_stage(self, stage: Stage, script: str, around: Around, program: Program) -> None:
+        """Has the program judge the script of a change. A fault where it does not hold what it is told to hold, or
+        lacks what stands round that.
+        """
+        before, behind = around(stage.change)
+        check_round(script, before, behind)
+        stage.hold.printed(program).check_scripts([script], [], [], [*before, *behind])
 
     def check_parts(self, scripts: Sequence[str]) -> None:
-        """Has the program judge the scripts of the parts. A fault where they are not what is told, or bring a place to
-        an OSD that is emptied.
+        """Has the program judge the scripts of the parts. A fault where they are not what is told, bring a place to an
+        OSD that is emptied, or name a group twice.
         """
         self.printed.check_scripts(scripts, self.lengths, [])
-        gone = set(self.osds)
-        for command in (own for text in scripts for own in commands_in(text)):
+        gone, parts = set(self.osds), [commands_in(text) for text in scripts]
+        check_each_once(parts)
+        for command in (own for part in parts for own in part):
             targets = command.osds[1::2] if " pg-upmap-items " in command.line else command.osds
             if not gone.isdisjoint(targets):
                 raise defect(command.line, "a place comes to an OSD that is drained")
@@ -123,10 +137,10 @@ class Drain:
 class DrainOrder(StepOrder):
     """The order of steps where the OSDs that are emptied are the fullest, first the one that has most."""
 
-    def __init__(self, spread: Spread, steps: list[PlanStep], emptied: Iterable[int]) -> None:
+    def __init__(self, measure: Measure, steps: list[PlanStep], emptied: Iterable[int]) -> None:
         """Takes what the OSDs have and their shares, the steps, and which are emptied."""
         self.emptied = frozenset(emptied)
-        super().__init__(spread, None, steps)
+        super().__init__(measure.spread, measure.sizes, steps)
 
     def full(self, osd: int) -> float:
         """How full an OSD is."""
@@ -143,8 +157,9 @@ def emptied_in(cluster: Cluster, wish: DrainWish, program: Program) -> Emptied:
     ups = sets_of_maps([with_all_up(value) for value in view.maps], program)
     shares = view.shares(ups)
     classes = {device["id"]: device.get("class") for device in cluster.crush["devices"]} if wish.is_kept else None
-    raw: dict[str, Places] = {group: up.places for group, up in ups.items()}
-    return Emptied(frozenset(wish.osds), shares.reached, shares.reach_by, raw, classes)
+    raw, pools = places_by_group(ups), [pool_of(pool) for pool in cluster.pools]
+    data = None if wish.data is None else byte_shares(pools, wish.data, raw, shares.reach_by)
+    return Emptied(frozenset(wish.osds), shares.reached, shares.reach_by, raw, classes, data)
 
 
 def chooser_of(held: Cluster, sets: Mapping[str, Places], emptied: Emptied, program: Program) -> Chooser:
@@ -277,17 +292,19 @@ def drain_of(cluster: Cluster, wish: DrainWish, program: Program) -> Drain:
     was, to = sets_of_maps(before.maps, program), sets_of_maps(end.maps, program)
     steps = steps_to(held, then, was, to)
     has, after, share = counts_of(was), counts_of(to), course.chooser.emptied.share
-    order = DrainOrder(Spread(dict(has), share), steps, gone)
+    ends, own = (places_by_group(was), places_by_group(to)), course.chooser.emptied.data
+    measure = measure_between(own, ends, share)
+    order = DrainOrder(measure, steps, gone)
     order.limit(wish.size.busy)
     parts = parts_in_order(order, wish.size.commands, False)
     lengths = [sum(len(step.commands) for step in part) for part in parts]
     if wish.size.is_whole and parts:
         parts = [[step for part in parts for step in part]]
-    down = frozenset(osd for osd, own in cluster.osds.items() if not own["up"])
-    measure, sets = Measure(Spread({}, share), None, dict(after), {}), {step.group: step.now for step in steps}
+    down = frozenset(osd for osd, of in cluster.osds.items() if not of["up"])
+    sets = {step.group: step.now for step in steps}
     printed = Printed(before.maps, program, sets, measure, down, Asked.NAMED)
     stages = [
-        exceptions_in(own) for own in (held.osd_dump, with_exceptions(held, then).osd_dump, course.end.cluster.osd_dump)
+        exceptions_in(at) for at in (held.osd_dump, with_exceptions(held, then).osd_dump, course.end.cluster.osd_dump)
     ]
     return Drain(
         cluster.epoch,
@@ -304,6 +321,7 @@ def drain_of(cluster: Cluster, wish: DrainWish, program: Program) -> Drain:
         Spread(dict(has), share),
         Spread(dict(after), share),
         undo_of(cluster, wish, stages, lost_on_the_way(cluster, course), program),
+        None if own is None else own.fill(*ends, parts),
     )
 
 

@@ -5,6 +5,7 @@ short without them.
 from __future__ import annotations
 
 from collections.abc import Iterable, Mapping, Sequence
+from itertools import groupby, zip_longest
 
 from ..cluster.cluster import Cluster
 from ..cluster.judge import Judge, Places, judge_of_cluster
@@ -12,6 +13,8 @@ from ..cluster.names import pool_words, step_words
 from ..faults import Fault
 from ..program.maps import group_key
 from ..words import counted, listed, some
+from .guards import is_guard
+from .printed_commands import FORM, PrintedCommand, defect
 
 # Whose items all have one weight, so that none of them has another by itself.
 UNIFORM = "uniform"
@@ -103,6 +106,31 @@ def check_short(cluster: Cluster, osds: frozenset[int], was: Mapping[str, Places
     found = short_lines(cluster, osds, was, then)
     if found:
         raise Fault(*found, "nothing is drained")
+
+
+def check_round(script: str, before: Sequence[str], behind: Sequence[str]) -> None:
+    """A fault where a script has other lines before its commands on exceptions, or behind them, than it is to have;
+    comments and guards aside.
+    """
+    own = [line for line in script.splitlines() if line and line[0] != "#" and line != "set -e" and not is_guard(line)]
+    wanted = [*before, *(line for line in own if FORM.fullmatch(line)), *behind]
+    unlike = next((one or other for one, other in zip_longest(own, wanted) if one != other), None)
+    if unlike is not None:
+        raise defect(unlike, "it stands elsewhere, or something stands where it should")
+
+
+def check_each_once(parts: Sequence[Sequence[PrintedCommand]]) -> None:
+    """A fault where the commands of a group do not all stand together in one part."""
+    seen = set[str]()
+    for group, commands in ((group, list(own)) for part in parts for group, own in groupby(part, key=group_named_by)):
+        if group in seen:
+            raise defect(commands[0].line, f"{group} has moved before")
+        seen.add(group)
+
+
+def group_named_by(command: PrintedCommand) -> str:
+    """The group of a command."""
+    return command.group
 
 
 def check_once(words: Sequence[str], osds: Sequence[Sequence[int]]) -> None:

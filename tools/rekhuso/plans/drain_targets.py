@@ -1,10 +1,10 @@
 """Where the groups go that lie on OSDs which are emptied.
 
-Each place on such an OSD goes to the emptiest OSD that may have it: the one with least to its share over all pools, of
-several the one with least of the pool. An OSD may have it where it is up and in, weighs something and is not drained
-itself, the rule allows the set as Ceph's monitor reads it, and exceptions lead there that the monitor lets stay. Where
-no single OSD may have a place, places of what the rule gives without the drained OSDs come in for others of the set
-too, as few as will do.
+Each place on such an OSD goes to the emptiest OSD that may have it: the one with least to its share over all pools, by
+groups or where it is known by bytes; of several the one with least of the pool. An OSD may have it where it is up and
+in, weighs something and is not drained itself, the rule allows the set as Ceph's monitor reads it, and exceptions lead
+there that the monitor lets stay. Where no single OSD may have a place, places of what the rule gives without the
+drained OSDs come in for others of the set too, as few as will do.
 """
 
 from __future__ import annotations
@@ -19,6 +19,7 @@ from ..cluster.judge import Places, Reason
 from ..cluster.moving import coming, leaving
 from ..program.maps import Pool, group_key
 from ..values import SLOTS
+from .byte_spread import ByteShares
 from .drain_stages import light_osds
 from .holding import Holder, NO_WAY, Way, way_to
 
@@ -28,8 +29,8 @@ Set = list["int | None"]
 @dataclass(frozen=True, **SLOTS)
 class Emptied:
     """What is known of the OSDs once some are emptied: these; the share of each of the others that the rules can reach,
-    over all pools and of each pool; what each rule gives without them; and the device class of each, where places
-    keep it.
+    over all pools and of each pool; what each rule gives without them; the device class of each, where places keep
+    it; and what groups hold, where that is known: then the share over all pools is one of the data.
     """
 
     osds: frozenset[int]
@@ -37,6 +38,15 @@ class Emptied:
     share_of: Mapping[int, Mapping[int, float]]
     raw: Mapping[str, Places]
     classes: Mapping[int, str | None] | None
+    data: ByteShares | None
+
+    def size(self, group: str) -> float:
+        """What a place of a group counts."""
+        return 1.0 if self.data is None else self.data.sizes[group]
+
+    def share_in(self, osd: int) -> float:
+        """The share of an OSD over all pools."""
+        return (self.share if self.data is None else self.data.share).get(osd, 0.0)
 
 
 def with_place(places: Sequence[int | None], at: int, osd: int) -> Set:
@@ -52,7 +62,7 @@ class Chooser:
         self.holder, self.emptied = holder, emptied
         self.up = {osd for osd, own in cluster.osds.items() if own["up"] and own["weight"] > 0}
         self.up -= emptied.osds | light_osds(cluster)
-        self.has: Counter[int] = Counter()
+        self.has: dict[int, float] = {}
         self.has_of: dict[int, Counter[int]] = {}
         for group, places in sets.items():
             self.put(group, [], places)
@@ -60,10 +70,12 @@ class Chooser:
 
     def put(self, group: str, was: Places, now: Places) -> None:
         """Counts a group where it goes."""
-        own = self.has_of.setdefault(group_key(group)[0], Counter())
-        for counts in (self.has, own):
-            counts.subtract(leaving(was, now, False))
-            counts.update(set(coming(was, now, False)))
+        own, size = self.has_of.setdefault(group_key(group)[0], Counter()), self.emptied.size(group)
+        go, come = leaving(was, now, False), set(coming(was, now, False))
+        own.subtract(go)
+        own.update(come)
+        for osd, more in [*((osd, -size) for osd in go), *((osd, size) for osd in come)]:
+            self.has[osd] = self.has.get(osd, 0.0) + more
 
     def able(self, pool: Pool) -> list[int]:
         """The OSDs that may have places of a pool at all: up, in, and of some weight below what its rule takes."""
@@ -72,22 +84,23 @@ class Chooser:
             self._able[pool["rule"]] = [osd for osd in sorted(self.up) if weights.get(osd, 0.0) > 0]
         return self._able[pool["rule"]]
 
-    def fullness(self, pool: int, osd: int) -> tuple[float, float, int]:
-        """How full an OSD would be with one place more: to its share over all pools, and of a pool."""
-        own, of_pool = self.emptied.share.get(osd, 0.0), self.emptied.share_of.get(pool, {}).get(osd, 0.0)
+    def fullness(self, group: str, osd: int) -> tuple[float, float, int]:
+        """How full an OSD would be with a place of a group more: to its share over all pools, and of the group's."""
+        pool = group_key(group)[0]
+        own, of_pool = self.emptied.share_in(osd), self.emptied.share_of.get(pool, {}).get(osd, 0.0)
         count = self.has_of.get(pool, Counter())[osd] + 1
         return (
-            (self.has[osd] + 1) / own if own > 0 else float("inf"),
+            (self.has.get(osd, 0.0) + self.emptied.size(group)) / own if own > 0 else float("inf"),
             count / of_pool if of_pool > 0 else float("inf"),
             osd,
         )
 
-    def emptiest(self, pool: Pool, osd: int, places: Places) -> list[int]:
-        """The OSDs that may have a place of an OSD, the emptiest first."""
-        classes = self.emptied.classes
+    def emptiest(self, group: str, osd: int, places: Places) -> list[int]:
+        """The OSDs that may have a place of a group on an OSD, the emptiest first."""
+        classes, pool = self.emptied.classes, self.holder.pools[group_key(group)[0]]
         found = (own for own in self.able(pool) if own not in places)
         kept = (own for own in found if classes is None or classes.get(own) == classes.get(osd))
-        return sorted(kept, key=lambda own: self.fullness(pool["id"], own))
+        return sorted(kept, key=lambda own: self.fullness(group, own))
 
     def way(self, group: str, places: Set, is_erasure: bool) -> Way | Reason:
         """The exceptions that lead a group to a set and stay; or why there are none."""
@@ -115,11 +128,11 @@ class Chooser:
         """The set of a group where each place on an OSD that is emptied has gone to the emptiest that may have it; None
         where one has nowhere to go by itself.
         """
-        pool, now = self.holder.pools[group_key(group)[0]], list(was)
+        now = list(was)
         for at, osd in enumerate(was):
             if osd is None or osd not in self.emptied.osds:
                 continue
-            ranked = (with_place(now, at, own) for own in self.emptiest(pool, osd, now))
+            ranked = (with_place(now, at, own) for own in self.emptiest(group, osd, now))
             found = next((places for places in ranked if self.is_allowed(group, places)), None)
             if found is None:
                 return None

@@ -114,6 +114,15 @@ def is_guard(line: str) -> bool:
     return any(form.fullmatch(words[1]) for form in FORMS) and words[2].isprintable()
 
 
+def guarded(text: str, guards: Guards) -> str:
+    """A script with guards behind its first `set -e`, where it has none."""
+    lines = text.splitlines()
+    if any(map(is_guard, lines)) or "set -e" not in lines:
+        return text
+    at = lines.index("set -e") + 1
+    return "\n".join([*lines[:at], *guards.lines(lines), *lines[at:]]) + "\n"
+
+
 def guards_of(cluster: Cluster) -> Guards:
     """The guards of scripts over a cluster of dumps."""
     dump, unrest = cluster.osd_dump, unrest_of(cluster)

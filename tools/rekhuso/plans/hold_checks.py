@@ -9,6 +9,7 @@ from ..cluster.aftermath import Command, StateChange
 from ..cluster.cluster import Cluster
 from ..cluster.conversion import map_of
 from ..cluster.map_parts import map_clusters
+from ..cluster.misplaced import MOST, misplaced_of, temporary_sets
 from ..cluster.new_crush import PoolChange
 from ..cluster.outage import outage_of
 from ..cluster.told_view import verified_view
@@ -68,19 +69,35 @@ def check_counts(cluster: Cluster, steps: Sequence[Command]) -> None:
         )
 
 
+def outage_words(cluster: Cluster, program: Program) -> list[str]:
+    """Why a cluster is amid an outage: OSDs are down, and groups short."""
+    if all(osd["up"] for osd in cluster.osds.values()):
+        return []
+    maps = [map_of(part) for part in map_clusters(cluster)]
+    osds = {osd["id"]: osd for value in maps for osd in value["osds"]}
+    pools = [pool for value in maps for pool in value["pools"]]
+    outage = outage_of(osds.values(), pools, sets_of_maps(maps, program))
+    return [] if outage is None else [str(outage)]
+
+
 def moving_words(cluster: Cluster, program: Program) -> list[str]:
     """Why a cluster is not still: groups whose data is not where their sets are, or OSDs that are down."""
     found, temporary = [], len(entries_of(cluster.osd_dump, "pg_temp"))
     if temporary:
         have = f"{temporary} groups have" if temporary > 1 else "1 group has"
         found.append(f"the cluster moves already: {have} a pg_temp, as their data is not where their sets are")
-    if any(not osd["up"] for osd in cluster.osds.values()):
-        maps = [map_of(part) for part in map_clusters(cluster)]
-        osds = {osd["id"]: osd for value in maps for osd in value["osds"]}
-        pools = [pool for value in maps for pool in value["pools"]]
-        outage = outage_of(osds.values(), pools, sets_of_maps(maps, program))
-        found += [] if outage is None else [str(outage)]
-    return found
+    return found + outage_words(cluster, program)
+
+
+def much_moving(cluster: Cluster, program: Program) -> list[str]:
+    """The same, where few places are still to move and are told alone: that is borne as a plan bears it."""
+    temporary = temporary_sets(cluster.osd_dump)
+    maps = [map_of(part) for part in map_clusters(cluster)] if temporary else []
+    found = misplaced_of(cluster.osd_dump, sets_of_maps(maps, program)) if temporary else None
+    if found is not None and found.share < MOST:
+        print(found, file=sys.stderr)
+    much = [] if found is None or found.share < MOST else [str(found)]
+    return much + outage_words(cluster, program)
 
 
 def torn_words(groups: Sequence[str], path: str) -> list[str]:

@@ -176,6 +176,23 @@ class HoldParts(CountParts):
     explicit: list[str]
 
 
+class BytePeakParts(TypedDict):
+    """The OSD that gets fullest by bytes while parts move, of those to which places come, and how many times its share
+    it then has, where nothing of a part has gone yet.
+    """
+
+    osd: int
+    ratio: float
+
+
+class ByteFillParts(TypedDict):
+    """How full OSDs are by bytes before parts and after them, and meanwhile, None where nothing comes."""
+
+    before: FillParts
+    after: FillParts
+    peak: BytePeakParts | None
+
+
 class PeakParts(TypedDict):
     """The OSD that has most groups while a part moves, of those to which places come (None where none does), and how
     many it has, where nothing has gone yet.

@@ -18,6 +18,7 @@ from ..cluster.conversion import map_of
 from ..cluster.evenness import Spread
 from ..cluster.group_states import GroupState, erasure_groups
 from ..cluster.map_parts import map_clusters
+from ..cluster.moving import leaving
 from ..cluster.outage import outage_of
 from ..cluster.view import ClusterView, view_of_cluster
 from ..faults import Fault
@@ -29,6 +30,7 @@ from .busy import Busy, MostBusy, partakers
 from .carried import Part, Settings, commands_by_group, groups_in_parts, part_in
 from .courses import Course, Play
 from .drain_stages import after_all, light_osds
+from .guards import Guards, guarded
 from .printed_commands import PrintedCommand
 from .question import sets_of_maps
 from .step_order import EVEN
@@ -40,12 +42,13 @@ Places = list["int | None"]
 
 @dataclass(frozen=True, **SLOTS)
 class NextWish:
-    """How many places are under way at most in all, None for those of a part; and in how many moves under way an OSD
-    and a host takes part.
+    """How many places are under way at most in all, None for those of a part; in how many moves under way an OSD and a
+    host takes part; and the guards of what is put out, over the cluster as it is now.
     """
 
     most: int | None
     busy: MostBusy
+    guards: Guards
 
 
 @dataclass(frozen=True, **SLOTS)
@@ -63,7 +66,7 @@ class Progress:
 class NextStep:
     """What is to be done now: the status, the text of the commands, and the part that they are of; how many groups are
     done, and what is under way and left; how many places are under way in the whole cluster; the commands that are left
-    out, each with why; and of each OSD how many places are under way to it, and how many are left.
+    out, each with why; and of each OSD how many places are under way to it, are left, and are still to go from it.
     """
 
     status: int
@@ -74,7 +77,7 @@ class NextStep:
     left: Progress
     moving: int
     left_out: list[tuple[str, str]]
-    by_osd: dict[int, tuple[int, int]]
+    by_osd: dict[int, tuple[int, int, int]]
 
 
 @dataclass(**SLOTS)
@@ -281,6 +284,11 @@ class Carrying:
             self.after.get(group, self.now.ups[group].places), group in self.now.erasure
         )
 
+    def goes(self, group: str) -> list[int]:
+        """The OSDs from which places of a group are still to go."""
+        after = self.after.get(group, self.now.ups[group].places)
+        return leaving(self.now.states[group].acting, after, group in self.now.erasure)
+
     def moving_before(self, at: int) -> dict[str, list[int]]:
         """The groups of the parts before one that are under way."""
         own = {group for groups in self.groups[:at] for group in groups}
@@ -311,6 +319,7 @@ class Carrying:
             own = self.rest()
             lines = [command.line for group in self.chosen() for command in own[group]]
             text = "\n".join(["set -e", *lines]) + "\n" if lines else ""
+        text = guarded(text, self.wish.guards)
         courses_of(self.maps(), part_in("", text).commands, self.program)
         return text
 
@@ -322,6 +331,7 @@ class Carrying:
         under = {group: osds for group, osds in under.items() if group not in rest}
         to_come: Counter[int] = Counter(osd for osds in under.values() for osd in osds)
         to_send: Counter[int] = Counter(osd for osds in rest.values() for osd in osds)
+        to_go: Counter[int] = Counter(osd for group in [*under, *rest] for osd in self.goes(group))
         is_done = not under and self.at == len(self.parts)
         return NextStep(
             OUT if text else DONE if is_done else WAITS,
@@ -332,7 +342,7 @@ class Carrying:
             self.now.progress(rest),
             sum(map(len, self.now.moving.values())),
             self.left_out,
-            {osd: (to_come[osd], to_send[osd]) for osd in sorted(to_come | to_send)},
+            {osd: (to_come[osd], to_send[osd], to_go[osd]) for osd in sorted(to_come | to_send | to_go)},
         )
 
 

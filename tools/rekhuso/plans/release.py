@@ -16,9 +16,9 @@ from ..cluster.cleanup import excepted_groups
 from ..cluster.cluster import Cluster
 from ..cluster.conversion import pool_of
 from ..cluster.difference import exception_commands
-from ..cluster.evenness import Spread
 from ..cluster.moving import erasure_pools, leaving
 from ..cluster.names import set_words
+from ..cluster.pool_data import Data
 from ..cluster.unrest import Unrest, unrest_of
 from ..cluster.view import ClusterView, view_of_cluster
 from ..faults import Fault
@@ -26,8 +26,8 @@ from ..program.answers import Up
 from ..program.maps import Entry, Exceptions, Pool, Program, entries_of, group_key, with_all_up
 from ..values import SLOTS
 from ..words import counted
-from .bounds import Measure
 from .busy import PartSize
+from .byte_spread import ByteFill, byte_shares, groups_by_osd, measure_between, places_by_group
 from .group_filter import ALL_GROUPS, GroupFilter
 from .json_forms import PeakParts
 from .plan import DEFAULT_WISH, opened, planned
@@ -41,7 +41,8 @@ from .steps import PlanStep, by_group
 class Release:
     """How held groups are let go: the epoch, the pools, the groups that stay held as they would get fewer places, the
     steps in their parts, how many groups the fullest OSD has before all of them, while each of them moves, and at the
-    end; by what the commands are judged, in parts of so many; and the pools that are left alone.
+    end; by what the commands are judged, in parts of so many; the pools that are left alone; and how full OSDs are by
+    bytes, where it is known what pools hold.
     """
 
     epoch: int
@@ -54,6 +55,7 @@ class Release:
     printed: Printed
     lengths: list[int]
     alone: Mapping[int, Unrest]
+    fill: ByteFill | None
 
     @property
     def steps(self) -> list[PlanStep]:
@@ -65,13 +67,14 @@ class Release:
 class Goal:
     """To where held groups are let go: to what the rules give beside exceptions that are kept, or on to the plan for
     that. Then pools that are not at rest are left alone, unless they are planned nonetheless. And which groups are let
-    go, where these are not all.
+    go, where these are not all, and what the pools hold, where that is known.
     """
 
     kept: Exceptions
     is_planned: bool
     is_anyway: bool
     chosen: GroupFilter = ALL_GROUPS
+    data: Data | None = None
 
     def alone(self, cluster: Cluster) -> dict[int, Unrest]:
         """The pools of a cluster that are left alone."""
@@ -118,7 +121,7 @@ def check_end(ups: Mapping[str, Up], wanted: Mapping[str, list[int | None]]) -> 
 
 def counts_of(ups: Mapping[str, Up]) -> Counter[int]:
     """How many groups each OSD has."""
-    return Counter(osd for up in ups.values() for osd in set(up.places) if osd is not None)
+    return groups_by_osd(places_by_group(ups))
 
 
 def most_of(counts: Counter[int]) -> int:
@@ -208,15 +211,17 @@ def release_of(cluster: Cluster, goal: Goal, size: PartSize, program: Program) -
         for group, lines in by_group(exception_commands(now, then)).items()
         if group in was
     ]
-    has, share = counts_of(was), end.shares(to).reached
-    order = StepOrder(Spread(dict(has), share), None, steps)
+    shares, ends = end.shares(to), (places_by_group(was), places_by_group(to))
+    own = None if goal.data is None else byte_shares(pools, goal.data, ends[1], shares.reach_by)
+    measure = measure_between(own, ends, shares.reached)
+    order = StepOrder(measure.spread, measure.sizes, steps)
     order.limit(size.busy)
     parts = parts_in_order(order, size.commands, False)
     lengths = [sum(len(step.commands) for step in part) for part in parts]
     if size.is_whole and parts:
         parts = [[step for part in parts for step in part]]
-    after, down = counts_of(to), frozenset(osd for osd, own in cluster.osds.items() if not own["up"])
+    has, after, down = counts_of(was), counts_of(to), frozenset(osd for osd, of in cluster.osds.items() if not of["up"])
     asked = Asked.NONE if cluster.has_weight_set else Asked.NAMED
-    sets, measure = {step.group: step.now for step in steps}, Measure(Spread({}, share), None, dict(after), {})
-    peaks, printed = peaks_of(Counter(has), parts), Printed(before.maps, program, sets, measure, down, asked)
-    return Release(cluster.epoch, pools, stay, parts, peaks, most_of(has), most_of(after), printed, lengths, alone)
+    printed = Printed(before.maps, program, {step.group: step.now for step in steps}, measure, down, asked)
+    told = peaks_of(Counter(has), parts), most_of(has), most_of(after), printed, lengths, alone
+    return Release(cluster.epoch, pools, stay, parts, *told, None if own is None else own.fill(*ends, parts))
