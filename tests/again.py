@@ -4,14 +4,20 @@ from __future__ import annotations
 
 import pathlib
 import random
+from functools import partial
+from itertools import product
 from typing import Any
 
 from rekhuso.cluster.evenness import Spread
 from rekhuso.plans.at_rest import AtRest
+from rekhuso.plans.bounds import Measure
 from rekhuso.plans.cycles import without_cycles
 from rekhuso.plans.gains import gains
+from rekhuso.plans.least import Places, least_for
 from rekhuso.plans.loads import STEP_PARTS
+from rekhuso.plans.step_order import StepOrder, parts_in_order
 from rekhuso.plans.steps import PlanStep
+from rekhuso.plans.worth import fullest_after
 
 from tests.clusters import STOCK, Json, commands, copied
 from tests.tool_cases import StockCase
@@ -96,8 +102,71 @@ class PlansEnd(StockCase):
                 second = commands(self.output("plan", *self.dumps(name, again), *words, "--anyway"))
                 with self.subTest(name=name, words=words[:1]):
                     self.assertTrue(output or "nothing to gain" in error)
-                    if "a plan over this one has" not in error:
+                    if "a plan over this one begins with" not in error:
                         self.assertEqual(second, [])
+
+    def test_first_commands(self) -> None:
+        """`--until` takes as many commands as bring the fullest OSD to a ratio, and not one more; what is told of all
+        is how full it is after so many places. Where it never gets there all are taken.
+        """
+        files = [*self.dumps("007-cephfs-ec"), "--anyway"]
+        whole = self.json("plan", *files)
+        self.assertEqual(self.json("plan", *files, "--until", "1")["commands"], whole["commands"])
+        for ratio in (1.5, 1.2, 1.1):
+            own = self.json("plan", *files, "--until", ratio)
+            count = len(own["commands"])
+            self.assertEqual(own["commands"], whole["commands"][:count])
+            self.assertLessEqual(own["cluster"]["after"]["groups"]["fullest"]["ratio"], ratio)
+            before = self.json("plan", *files, "--max", count - 1)
+            self.assertGreater(before["cluster"]["after"]["groups"]["fullest"]["ratio"], ratio)
+        worth, before, after = whole["worth"], *(whole["cluster"][when]["groups"] for when in ("before", "after"))
+        self.assertEqual(worth["fullest"][0], [0, before["fullest"]["ratio"]])
+        self.assertEqual(worth["fullest"][-1], [whole["moving"]["places"], after["fullest"]["ratio"]])
+        self.assertLessEqual(whole["cluster"]["least"], after["fullest"]["ratio"])
+        first = self.json("plan", *files, "--max", worth["first"]["commands"])
+        self.assertEqual(first["cluster"]["after"]["groups"]["fullest"]["ratio"], worth["first"]["fullest"])
+
+    def test_least(self) -> None:
+        """How full the fullest OSD stays at least is what trying all numbers of places gives: whole places, no more in
+        a failure domain than it may have, and what does not move stays.
+        """
+        rng = random.Random(3)
+        for _ in range(150):
+            wanted, fixed = ({osd: rng.uniform(1, 3) for osd in range(4)} for _ in range(2))
+            fixed = {osd: own - 1 for osd, own in fixed.items()}
+            size, domains = rng.uniform(0.4, 1.2), [((0, 1), rng.randint(1, 6)), ((2, 3), rng.randint(1, 6))]
+            count = rng.randint(1, sum(most for _, most in domains))
+            ways = (
+                own
+                for own in product(range(count + 1), repeat=4)
+                if sum(own) == count and all(own[one] + own[two] <= most for (one, two), most in domains)
+            )
+            worst = min(
+                max([(fixed[osd] + size * own) / wanted[osd] for osd, own in enumerate(way) if own]) for way in ways
+            )
+            found = least_for(partial(Places(count, size, domains).fit, wanted, fixed))
+            self.assertLessEqual(found, worst + 1e-9)
+            self.assertGreater(found, worst - 1e-3)
+
+    def test_order_that_is_cut(self) -> None:
+        """Where each OSD only gives or only gets, the fullest never gets fuller on the way than it is at the end; and
+        of two steps that the fullest OSD has, the one that makes another fuller than that comes last.
+        """
+        rng = random.Random(11)
+        for _ in range(300):
+            steps = [step_of(f"1.{at:x}", at % 4, 4 + rng.randrange(4)) for at in range(12)]
+            spread = Spread(dict.fromkeys(range(8), 12), {osd: rng.uniform(9, 16) for osd in range(8)})
+            own = [
+                step for part in parts_in_order(StepOrder(spread, None, list(steps)), 10**6, False) for step in part
+            ]
+            self.assertEqual(sorted(step.group for step in own), sorted(step.group for step in steps))
+            full = fullest_after(Measure(spread, None, {}, {}), own)
+            self.assertTrue(all(other <= max(one, full[-1]) + 1e-9 for one, other in zip(full, full[1:])))
+        steps = [step_of("1.0", 2, 1), step_of("1.1", 1, 0), step_of("1.2", 1, 0)]
+        spread = Spread({0: 6, 1: 10, 2: 11}, {0: 10.0, 1: 10.0, 2: 10.0})
+        own = [step for part in parts_in_order(StepOrder(spread, None, steps), 10**6, False) for step in part]
+        self.assertEqual([step.group for step in own][0], "1.0")
+        self.assertEqual(fullest_after(Measure(spread, None, {}, {}), own)[1:], [1.1, 1.0, 1.0])
 
     def test_pools_at_rest(self) -> None:
         """Where it is known that a pool has no move there is none, whatever ways are open between OSDs that did not

@@ -185,6 +185,7 @@ class Edges(ToolCase):
         edges = ("1e9999999", "-1e9999999", "1e308", DIGITS, f"-{DIGITS}", "1/0", "nan", "")
         for words in (
             ["plan", EXAMPLE, "--max="],
+            ["plan", EXAMPLE, "--until="],
             ["plan", EXAMPLE, "--deviation="],
             ["plan", EXAMPLE, "--alone", "--deviation="],
             ["plan", EXAMPLE, "--to", "parts", "--batch="],

@@ -172,8 +172,8 @@ PLAN_FAULTS: list[Planted] = [
     ("the text has another command", plan_scripts.Script, "text", with_other_line),
 ]
 PAIR_FAULTS: list[Planted] = [
-    ("pairs lead back", plan, "settled", lambda own: lambda session, new: turned(own(session, new))),
-    ("a pair is lost", plan, "settled", lambda own: lambda session, new: shortened(own(session, new))),
+    ("pairs lead back", rounds, "settled", lambda own: lambda session, new: turned(own(session, new))),
+    ("a pair is lost", rounds, "settled", lambda own: lambda session, new: shortened(own(session, new))),
 ]
 UNDO_FAULTS: list[Planted] = [
     ("a step is not taken back", PlanStep, "undone", undone_otherwise(forgetting)),

@@ -48,7 +48,7 @@ from ..output.json_output import put_json
 from ..output.origins import Origin, origin_of, origin_of_map
 from ..output.plan_scripts import Script, WATCH, balancer_words, client_words, part_file
 from ..output.plan_states import reasons_of, state_line, state_of
-from ..output.plan_words import plan_lines, quiet_words, refusal_words
+from ..output.plan_words import plan_lines, quiet_words, refusal_words, worth_words
 from ..plans.after_plan import quiet_deviation, rested_after
 from ..plans.busy import ALL
 from ..plans.hold_checks import check_still, told_words
@@ -96,6 +96,7 @@ class ToldPlan:
     def lines(self, deviation: Fraction | None) -> list[str]:
         """All that is told of plans on standard error."""
         found = plan_lines(self.outcome, self.names, deviation) + quiet_words(self.quiet)
+        found += worth_words(self.outcome, self.weights.moving(self.outcome.steps))
         return found + ([rested_words(self.rested)] if self.rested else [])
 
 
@@ -118,15 +119,16 @@ class Held:
 @dataclass(frozen=True, **SLOTS)
 class PlanOptions:
     """What is planned over, and how: which pools, by their names or by the device classes of their OSDs, at most how
-    many commands, how near to the shares, whether each pool by itself, whether for room alone, whether by weights
-    alone, whether amid an outage too, and by which file of data; how it is put out; and whether only that is told,
-    which of three it is.
+    many commands, until the fullest OSD is at which ratio to its share, how near to the shares, whether each pool by
+    itself, whether for room alone, whether by weights alone, whether amid an outage too, and by which file of data; how
+    it is put out; and whether only that is told, which of three it is.
     """
 
     source: Source
     pools: tuple[str, ...]
     classes: str | None
     most: int | None
+    until: float | None
     deviation: Fraction | None
     is_alone: bool
     is_room: bool
@@ -154,6 +156,8 @@ def options_of(arguments: Arguments) -> PlanOptions:
         raise Misuse("--room goes by the data that --df tells; --alone and --deviation do not go with it")
     if own.osds is not None and own.df is own.pgs is None:
         raise Misuse("--osds goes with --df or --pgs, which tell what moves")
+    if own.alone and own.until is not None:
+        raise Misuse("--until takes the first commands, which are worth most: those of --alone are in no such order")
     if own.alone and own.max is not None and own.max > MOST_MOVES:
         raise Misuse(f"--max {own.max}: with --alone at most {MOST_MOVES} moves a pool")
     return PlanOptions(
@@ -161,6 +165,7 @@ def options_of(arguments: Arguments) -> PlanOptions:
         pools=tuple(own.pool or ()),
         classes=getattr(own, "class"),
         most=own.max,
+        until=own.until,
         deviation=own.deviation,
         is_alone=own.alone,
         is_room=own.room,
@@ -200,7 +205,9 @@ def wish_of(options: PlanOptions, lives: list[Live], names: Names, held: Held) -
         raise Fault(f"--room wants all pools of the cluster: pool {beside[0]} holds data, and is in no map here")
     forms = options.is_alone, options.is_room, options.is_by_weight
     busy = parts.busy(held.tree)
-    return Wish(named_pools, options.deviation, most, parts.batch or ALL, *forms, data, held.nearfull, busy)
+    return Wish(
+        named_pools, options.deviation, most, parts.batch or ALL, *forms, data, held.nearfull, busy, options.until
+    )
 
 
 def chosen_in(options: PlanOptions, names: Names) -> frozenset[int] | None:
@@ -328,10 +335,16 @@ def put_plan_json(told: ToldPlan) -> None:
         why=reasons_of(outcome),
         commands=[line for step in steps for line in step.commands],
         undo=[line for step in steps for line in step.undo],
-        cluster={"before": outcome.before, "after": outcome.after, "largest": outcome.largest},
+        cluster={
+            "before": outcome.before,
+            "after": outcome.after,
+            "largest": outcome.largest,
+            "least": round(outcome.least, 4),
+        },
         **({} if outcome.data is None else {"data": dict(outcome.data, stopped=stopped)}),
         taken_out=outcome.taken_out,
         idle_primaries=told.rested,
+        worth=None if outcome.worth is None else outcome.worth.parts(),
         upmap_max_deviation=told.quiet,
         misplaced=None if told.misplaced is None else told.misplaced.parts(),
         unrest=[own.parts() for own in told.unrest.values()],
@@ -401,6 +414,14 @@ def work(options: PlanOptions) -> None:
 # The command line
 
 
+def ratio_word(word: str) -> float:
+    """A ratio to a share, from 1 on; an error of use where it is none."""
+    number = float(word) if re.fullmatch(r"[0-9]{1,4}(\.[0-9]{1,9})?", word) else 0.0
+    if number < 1:
+        raise argparse.ArgumentTypeError(f"{word}: no ratio to a share, from 1 to 9999")
+    return number
+
+
 def distance(word: str) -> Fraction:
     """A number of groups from a share; an error of use where it is none."""
     try:
@@ -433,6 +454,13 @@ def add_to(commands_of: Commands) -> None:
         metavar="N",
         type=commands_a_file,
         help="the first N commands, which are worth most; with --alone at most N moves a pool",
+    )
+    own.add_argument(
+        "--until",
+        metavar="RATIO",
+        type=ratio_word,
+        help="the first commands, as many as bring the fullest OSD to this ratio to its share, as 1.08: by bytes where "
+        "--df or --pgs tells them, else by groups",
     )
     own.add_argument(
         "--deviation",

@@ -5,7 +5,7 @@ from __future__ import annotations
 from fractions import Fraction
 
 from ..cluster.names import Names, named
-from ..plans.json_forms import PlanParts, StayParts
+from ..plans.json_forms import MovingParts, PlanParts, StayParts
 from ..plans.plan import Outcome
 from ..plans.rounds import MOST_MOVES
 from ..words import counted, size_words, some
@@ -19,6 +19,8 @@ OF_BLOCKS = "its rule takes OSDs in several steps, of which the balancer plans n
 MOST_STAYS = 5
 # Of more pools than these, so many are told of, the least even ones.
 MANY_POOLS, TOLD_POOLS = 20, 10
+# For how many hundreds of places it is told what they gain.
+MOST_ROWS = 4
 KEPT_BY = {
     "not planned": "none of its groups is moved",
     "failure domains": "all emptier OSDs stand in failure domains that have copies already",
@@ -120,9 +122,27 @@ def cluster_words(outcome: Outcome, names: Names) -> list[str]:
         found.append(f"as a whole: {groups}, or it would get less even, or an OSD fuller than the fullest")
     if not outcome.steps:
         found.append("as a whole: nothing to gain")
+    if outcome.least > 0:
+        found.append(f"at best: any plan leaves the fullest at {outcome.least:.2f} of its share, or fuller")
     if outcome.rest:
-        found.append(f"as a whole: a plan over this one has {counted(outcome.rest, 'command')}")
+        found.append(f"as a whole: a plan over this one begins with {counted(outcome.rest, 'command')}")
     return [f"cluster {line}" for line in found]
+
+
+def worth_words(outcome: Outcome, moving: MovingParts) -> list[str]:
+    """What a plan costs and what it gains in its order, in a line each; nothing where no order is worth more."""
+    if outcome.worth is None:
+        return []
+    count, worth = sum(len(step.commands) for step in outcome.steps), outcome.worth
+    size = "" if moving["bytes"] is None else f", {size_words(moving['bytes'])}"
+    (_, before), *rest, (places, after) = worth.fullest
+    gained = f"the first {worth.first[0]} of {count} bring the fullest from {before:.2f} to {worth.first[1]:.2f}"
+    gained = f"all bring the fullest from {before:.2f} to {after:.2f}" if worth.first[0] in (0, count) else gained
+    told = [f"{ratio:.2f} after {counted(own, 'place')}" for own, ratio in [*rest[:MOST_ROWS], (places, after)]]
+    return [
+        f"cluster by cost: {counted(count, 'command')}, {counted(places, 'place')}{size}",
+        f"cluster by gain: {gained}; {', '.join(told)}",
+    ]
 
 
 def quiet_words(quiet: int | None) -> list[str]:

@@ -93,6 +93,23 @@ class OsdMovingParts(TypedDict):
     bytes_go: int | None
 
 
+class FirstParts(TypedDict):
+    """So many first commands of a plan, and how full the fullest OSD is after them, to its share."""
+
+    commands: int
+    fullest: float
+
+
+class WorthParts(TypedDict):
+    """What a plan is worth in its order: by bytes or by groups how full the fullest OSD is, to its share, before it and
+    after each hundred places; and the first commands, by which most of that is gained.
+    """
+
+    by: str
+    fullest: list[list[float]]
+    first: FirstParts
+
+
 class PlanParts(TypedDict):
     """What is told of a pool's plan."""
 

@@ -30,15 +30,17 @@ from .cycles import without_cycles
 from .gains import command_count, gains
 from .hindrances import hindrances_by_mending
 from .json_forms import ClusterParts, DataParts, HindranceParts, PlanParts
+from .least import least_of
 from .measures import Measures, counts_after, pool_spread
 from .mend import mended
 from .pair_plans import PairPlanner
 from .parts import measure_of_steps, order_of_steps, ordered_parts
 from .pool_plans import PoolPlan, pool_plans
-from .rounds import Live, MOST_MOVES, Planner, left_out
+from .rounds import Live, MOST_MOVES, Planner, SMALL_CLUSTER, left_out
 from .spare import spared
 from .step_order import limited
 from .steps import PlanStep, appended_pairs, batches, steps_by_pool, steps_of
+from .worth import Worth, until, worth_of
 
 # How many groups an OSD may be from its share after a plan, where nothing else is asked for.
 DEVIATION = Fraction(1)
@@ -49,7 +51,8 @@ class Wish:
     """What plans are asked for: the pools that are named (all of several groups where none is), how near its shares a
     plan brings OSDs, how many commands or moves there are at most, how many commands stand in a part, whether each pool
     is planned by itself, whether the plan is for room alone, whether it goes by weights, whatever the rules can give,
-    what the pools hold, how full a disk may get, and in how many moves of a part OSDs take part at most.
+    what the pools hold, how full a disk may get, in how many moves of a part OSDs take part at most, and to which ratio
+    to its share the fullest OSD is to come, if no further.
     """
 
     named: frozenset[int]
@@ -62,14 +65,16 @@ class Wish:
     data: Data | None
     nearfull: float
     busy: MostBusy = NO_LIMIT
+    until: float | None = None
 
     def half(self) -> int:
         """Half of what two OSDs must differ by for a move, in 256ths of a group."""
         return round(256 * (DEVIATION if self.deviation is None else self.deviation))
 
 
-# How many plans are made, one over the other, before the commands of a further one are told.
-MOST_PLANS = 4
+# How many plans are made, one over the other, before the commands of a further one are told: of a cluster of as many
+# pools, times the OSDs, as its last moves are looked for one by one, and of a greater one.
+MOST_PLANS, FEW_PLANS = 32, 4
 # The plan of a whole cluster, where nothing else is asked for.
 DEFAULT_WISH = Wish(frozenset(), None, ALL, ALL, False, False, False, None, NEARFULL)
 
@@ -79,8 +84,9 @@ class Outcome:
     """What plans are: the steps in the parts in which they are taken, the groups whose steps were taken out for the
     sake of the cluster, what is told of each pool and of the cluster before and after, the pool with most data, if it
     is known, the OSDs that would get nearfull by steps that are left for their sake, each with how many, what is told
-    of the data, by what OSDs are full on the way, where the steps stand in an order, and how many commands a further
-    plan has over this one.
+    of the data, by what OSDs are full on the way, where the steps stand in an order, how many commands a further plan
+    has over this one, what the commands are worth in their order, and how full any plan leaves the
+    fullest OSD at least.
     """
 
     parts: list[list[PlanStep]]
@@ -93,6 +99,8 @@ class Outcome:
     data: DataParts | None
     measure: Measure | None
     rest: int = 0
+    worth: Worth | None = None
+    least: float = 0.0
 
     @property
     def steps(self) -> list[PlanStep]:
@@ -284,21 +292,27 @@ def passed_over(lives: list[Live], wanted: list[int], wish: Wish, tell: Callable
     return Pass(made, kept if gains(measures, kept, wish.is_alone) else [], taken_out, measures)
 
 
+def most_plans(lives: list[Live], wanted: list[int]) -> int:
+    """How many plans of some pools are made, one over the other, at most."""
+    osds = {osd for live in lives for osd in live.before.wanted}
+    return MOST_PLANS if len(wanted) * len(osds) <= SMALL_CLUSTER else FEW_PLANS
+
+
 def course_of(
     lives: list[Live], wanted: list[int], wish: Wish, tell: Callable[[str], None]
 ) -> tuple[list[Pass], list[PlanStep], int]:
     """Plans pools of a cluster until a plan over what has been made is empty: the plans, what all of them make, and how
     many commands a further one has that is not made.
     """
-    first, found = lives, [passed_over(lives, wanted, wish, tell)]
+    first, found, most = lives, [passed_over(lives, wanted, wish, tell)], most_plans(lives, wanted)
     is_cut = (wish.is_alone or wish.data is not None) and wish.most < (MOST_MOVES if wish.is_alone else ALL)
-    while not (is_cut or found[-1].is_last()) and len(found) <= MOST_PLANS:
+    while not (is_cut or found[-1].is_last()) and len(found) <= most:
         lives = [after(live, found[-1].steps) for live in lives]
         if wish.data is not None:
             wish = replace(wish, data=moved_data(wish.data, found[-1].measures.sizes, found[-1].steps))
         found.append(passed_over(lives, wanted, wish, tell))
-    rest = command_count(found[-1].steps) if len(found) > MOST_PLANS else 0
-    applied = [own for own in found if own.steps][: MOST_PLANS if rest else None]
+    rest = command_count(found[-1].steps) if len(found) > most else 0
+    applied = [own for own in found if own.steps][: most if rest else None]
     if len(applied) < 2:
         return found[:1], found[0].steps, rest
     if found[-1] is applied[-1]:
@@ -327,14 +341,16 @@ def planned(lives: list[Live], wish: Wish, tell: Callable[[str], None] = silent)
     measures, steps = passes[0].measures, sorted(steps, key=lambda step: group_key(step.group))
     made = as_one(passes, steps)
     taken_out = sorted({*passes[-1].taken_out} - {step.group for step in steps}, key=group_key)
+    least = least_of(measures, measures.pools.keys() - set(wanted) | made.refusals.keys())
     if wish.is_alone:
         alone = [own for part in batches(steps, wish.batch) for own in limited(part, wish.busy)]
-        return outcome_of(measures, wanted, made, alone, taken_out, {})
+        return replace(outcome_of(measures, wanted, made, alone, taken_out, {}), least=least)
     order = order_of_steps(measures, steps, made.first, wish.nearfull)
     order.limit(wish.busy)
-    parts = ordered_parts(order, wish.most, wish.batch)
+    parts, measure = ordered_parts(order, wish.most, wish.batch), measure_of_steps(measures, steps, wish.nearfull)
+    parts = parts if wish.until is None else until(parts, measure, wish.until)
     found = outcome_of(measures, wanted, made, parts, taken_out, order.stopped())
-    return replace(found, rest=rest, measure=measure_of_steps(measures, steps, wish.nearfull))
+    return replace(found, rest=rest, measure=measure, worth=worth_of(measure, found.steps), least=least)
 
 
 def pool_parts(

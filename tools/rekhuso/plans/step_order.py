@@ -2,18 +2,18 @@
 most, and no OSD gets fuller on the way than the fullest was before, or is at the end.
 
 How full an OSD is, is what it has to its share: bytes where it is known what pools hold, else groups. The next step is
-one from the fullest OSD, of several the one to the emptiest. It comes into a part only if no OSD then gets above two
-bounds, where all that comes in the part counts and nothing that goes. The one is the fullest OSD before the part, or
-that after the whole plan, or 1.05 of a share, whichever is most. The other is each OSD's own: one place more than the
-most that it has before the whole plan or after it, as next to a share of nearly nothing no ratio is a bound. Where the
-disks are known the nearfull ratio is the bound in place of both. In how many moves of a part an OSD or a host takes
-part may be limited too (`busy`).
+one from the fullest OSD, of several the one to the emptiest, by which the fullest OSD gets no fuller: that is taken
+only where no other is left. It comes into a part only if no OSD then gets above two bounds, where all that comes in the
+part counts and nothing that goes. The one is the fullest OSD before the part, or that after the whole plan, or 1.05 of
+a share, whichever is most. The other is each OSD's own: one place more than the most that it has before the whole plan
+or after it, as next to a share of nearly nothing no ratio is a bound. Where the disks are known the nearfull ratio is
+the bound in place of both. In how many moves of a part an OSD or a host takes part may be limited too (`busy`).
 """
 
 from __future__ import annotations
 
 from collections import Counter
-from collections.abc import Mapping, Sequence
+from collections.abc import Iterator, Mapping, Sequence
 from heapq import heapify, heappop, heappush
 
 from ..cluster.evenness import Spread
@@ -22,6 +22,8 @@ from .steps import PlanStep, batches
 
 # To this ratio to its share an OSD may always be filled, and what is no more than rounding.
 EVEN, ROUNDING = 1.05, 1e-12
+# How many steps by which the fullest OSD gets fuller are looked for.
+MOST_RISES = 64
 
 
 def has_after(
@@ -63,6 +65,9 @@ class StepOrder:
         self.high: dict[int, float] = {}
         self.busy = Busy(NO_LIMIT)
         self.partakers = [partakers(step.was, come) for step, come in zip(steps, self.come)]
+        self.tops = [(-self.full(osd), osd) for osd in spread.osds()]
+        heapify(self.tops)
+        self.rises = 0
         self.level = {osd: self.full(osd) for osds in self.come + self.go for osd in osds}
         self.bound, end = 0.0, dict(self.has)
         for at in range(len(steps)):
@@ -116,13 +121,14 @@ class StepOrder:
 
     def next_from(self, osd: int, first: bool) -> int | None:
         """The step from an OSD that comes next in the part, or None where none may come: that to the emptiest OSD, of
-        those that may come.
+        those that may come and by which the fullest OSD gets no fuller.
         """
         level, come = self.level, self.come
         self.leaving[osd] = [at for at in self.leaving[osd] if at in self.left]
         own = [at for at in self.leaving[osd] if at in self.first] if first else self.leaving[osd]
         ranked = sorted([(max([level[other] for other in come[at]], default=0.0), at) for at in own])
-        return next((at for _, at in ranked if self.is_allowed(at)), None)
+        most = self.fullest() + ROUNDING if self.rises < MOST_RISES else float("inf")
+        return next((at for _, at in ranked if self.filled(at) <= most and self.is_allowed(at)), None)
 
     def take(self, at: int) -> None:
         """Takes a step."""
@@ -130,6 +136,8 @@ class StepOrder:
         self.shift(self.has, at)
         for osd in self.come[at] + self.go[at]:
             self.level[osd] = self.full(osd)
+            if self.share.get(osd, 0.0) > 0:
+                heappush(self.tops, (-self.level[osd], osd))
         for osd in self.come[at]:
             self.high[osd] = self.high.get(osd, 0) + self.sizes[at]
         self.busy.take(self.partakers[at])
@@ -151,22 +159,55 @@ class StepOrder:
 
     def take_some(self, found: list[int], most: int, first: bool) -> None:
         """Takes steps of a part, of those that come first or of all, until it has so many commands."""
-        heap = [(-self.full(osd), osd) for osd in self.leaving]
-        heapify(heap)
         count = sum(len(self.steps[at].commands) for at in found)
-        while heap:
-            key, osd = heappop(heap)
-            at = self.next_from(osd, first) if -key == self.full(osd) else None
-            if at is None:
-                continue
+        for at in self.ordered(first):
             count += len(self.steps[at].commands)
             if found and count > most:
                 return
             self.take(at)
             found.append(at)
-            for other in self.come[at] + self.go[at]:
-                if other in self.leaving:
-                    heappush(heap, (-self.full(other), other))
+
+    def ordered(self, first: bool) -> Iterator[int]:
+        """The steps that come into the part one after the other, each of which is taken before the next is asked for:
+        those by which the fullest OSD gets no fuller as long as there are any.
+        """
+        heap, has_taken = self.by_fullness(), False
+        while heap:
+            key, osd = heappop(heap)
+            at = self.next_from(osd, first) if -key == self.full(osd) else None
+            if at is None and not heap and not has_taken:
+                at = self.rising(first)
+                self.rises += 1
+            if at is not None:
+                yield at
+                has_taken = True
+                for other in self.come[at] + self.go[at]:
+                    if other in self.leaving:
+                        heappush(heap, (-self.full(other), other))
+            if not heap and has_taken:
+                heap, has_taken = self.by_fullness(), False
+
+    def by_fullness(self) -> list[tuple[float, int]]:
+        """The OSDs from which steps are left, as a heap, the fullest first."""
+        heap = [(-self.full(osd), osd) for osd, own in self.leaving.items() if not self.left.isdisjoint(own)]
+        heapify(heap)
+        return heap
+
+    def rising(self, first: bool) -> int | None:
+        """The step that may come into the part and fills least, where the fullest OSD gets fuller by each."""
+        own = self.left & self.first if first else self.left
+        ranked = [(self.filled(at), at) for at in own if self.is_allowed(at)]
+        return min(ranked)[1] if ranked else None
+
+    def filled(self, at: int) -> float:
+        """How full a step makes an OSD at most."""
+        return max((self.ratio(self.has.get(osd, 0) + self.sizes[at], osd) for osd in self.come[at]), default=0.0)
+
+    def fullest(self) -> float:
+        """How full the fullest OSD is now, or at the end."""
+        while self.tops and self.tops[0][0] != -self.full(self.tops[0][1]):
+            heappop(self.tops)
+        return max(-self.tops[0][0] if self.tops else 0.0, self.end)
 
     def stopped(self) -> dict[int, int]:
         """The OSDs that would be filled too far by steps that are still to be taken, each with how many of these."""

@@ -1,0 +1,106 @@
+"""What the commands of a plan cost and gain in their order: how full the fullest OSD is after each step."""
+
+from __future__ import annotations
+
+from collections.abc import Sequence
+from dataclasses import dataclass
+from heapq import heapify, heappop, heappush
+
+from ..cluster.evenness import Spread
+from ..values import SLOTS
+from .bounds import Measure
+from .json_forms import WorthParts
+from .steps import PlanStep
+
+# After how many places it is told how full the fullest OSD is, and for which part of all that is gained it is told how
+# many commands bring it.
+PLACES, MOST = 100, 0.9
+# What is no more than rounding.
+ROUNDING = 1e-9
+
+
+@dataclass(frozen=True, **SLOTS)
+class Worth:
+    """What a plan is worth: whether OSDs are full by bytes or by groups, how full the fullest is before it and after
+    each hundred places that have come, the last ones fewer; and after how many commands most of it is gained, with how
+    full the fullest is then.
+    """
+
+    is_by_bytes: bool
+    fullest: list[tuple[int, float]]
+    first: tuple[int, float]
+
+    def parts(self) -> WorthParts:
+        """The same as it is told."""
+        return {
+            "by": "bytes" if self.is_by_bytes else "groups",
+            "fullest": [[places, round(ratio, 4)] for places, ratio in self.fullest],
+            "first": {"commands": self.first[0], "fullest": round(self.first[1], 4)},
+        }
+
+
+class Fullest:
+    """The fullest OSD, to its share, while steps are taken one by one."""
+
+    def __init__(self, measure: Measure) -> None:
+        """Takes what OSDs have before the steps."""
+        self.measure, self.has = measure, dict(measure.spread.has)
+        self.now = Spread(self.has, measure.spread.share)
+        self.heap = [(-self.now.ratio(osd), osd) for osd in self.now.osds()]
+        heapify(self.heap)
+
+    def take(self, step: PlanStep) -> None:
+        """Takes a step."""
+        size = self.measure.size(step.group)
+        for osds, more in ((step.places_come(), size), (step.places_leave(), -size)):
+            for osd in osds:
+                self.has[osd] = self.has.get(osd, 0) + more
+        for osd in {*step.places_come(), *step.places_leave()}:
+            if self.now.share.get(osd, 0.0) > 0:
+                heappush(self.heap, (-self.now.ratio(osd), osd))
+
+    def ratio(self) -> float:
+        """How full the fullest is; 0 where no OSD has a share."""
+        while self.heap and self.heap[0][0] != -self.now.ratio(self.heap[0][1]):
+            heappop(self.heap)
+        return -self.heap[0][0] if self.heap else 0.0
+
+
+def fullest_after(measure: Measure, steps: Sequence[PlanStep]) -> list[float]:
+    """How full the fullest OSD is before some steps, and after each of them."""
+    own = Fullest(measure)
+    found = [own.ratio()]
+    for step in steps:
+        own.take(step)
+        found.append(own.ratio())
+    return found
+
+
+def reached(full: Sequence[float], ratio: float) -> int | None:
+    """After how many steps the fullest OSD is no fuller than a ratio to its share; None where it is never."""
+    return next((count for count, own in enumerate(full) if own <= ratio + ROUNDING), None)
+
+
+def until(parts: list[list[PlanStep]], measure: Measure, ratio: float) -> list[list[PlanStep]]:
+    """The first steps of some parts, by which the fullest OSD comes to a ratio; all where it never does."""
+    steps = [step for part in parts for step in part]
+    left, found = reached(fullest_after(measure, steps), ratio), list[list[PlanStep]]()
+    for part in parts:
+        own = part if left is None else part[:left]
+        left = None if left is None else left - len(own)
+        found += [own] if own else []
+    return found
+
+
+def worth_of(measure: Measure, steps: Sequence[PlanStep]) -> Worth | None:
+    """What some steps are worth in their order; None where there is none."""
+    if not steps:
+        return None
+    full, places, found = fullest_after(measure, steps), 0, list[tuple[int, float]]()
+    for step, ratio in zip(steps, full[1:]):
+        if places // PLACES != (places + len(step.places_come())) // PLACES:
+            found.append((places + len(step.places_come()), ratio))
+        places += len(step.places_come())
+    rows = [(0, full[0]), *found[: len(found) - bool(found and found[-1][0] == places)], (places, full[-1])]
+    most = reached(full, full[0] - MOST * (full[0] - full[-1])) or 0
+    return Worth(measure.sizes is not None, rows, (sum(len(step.commands) for step in steps[:most]), full[most]))
