@@ -18,7 +18,7 @@ from rekhuso.plans.printed_commands import commands_in
 from tests.ceph_monitor import WORST
 from tests.clusters import Json, commands, copied
 from tests.reef_tools import ReefMonitor, reef_tools
-from tests.together import NEW, OLD, OSDMAP, exceptions
+from tests.together import NEW, OLD, OSDMAP, compiled, exceptions
 from tests.tool_cases import StockCase
 
 # As long may a script at a monitor take beside other work, a second or two for each of its commands.
@@ -324,6 +324,31 @@ class Monitors(ShellCase):
                 for name in names:
                     self.asked(monitor, "osd", "pool", "set", name, "pg_num_actual", "600")
                 self.wrong(monitor, scripts, "a pool grown")
+
+    def test_right_scripts(self) -> None:
+        """Behind its guards a part runs and its undoing leads back; a hold runs with its change, and each group is
+        where it was; a release runs over the dumps of then, and the exceptions are those that it leaves."""
+        self.needs("ceph-mon", bool(self.folders()))
+        for tools in self.folders():
+            with self.subTest(tools=tools), ReefMonitor(tools, OSDMAP) as monitor:
+                ceph = f'[ "$*" = "balancer off" ] || exec {tools}/ceph -c {monitor.conf} "$@"'
+                self.put_ceph(f"#!/bin/sh\n{ceph}\n")
+                scripts, before, sets = dict(self.scripts(monitor)), self.state(monitor), monitor.sets()
+                self.assertEqual(self.sh(scripts["part"])[0], 0)
+                self.assertNotEqual(exceptions(self.state(monitor)), exceptions(before))
+                self.assertEqual(self.sh(scripts["undo"])[0], 0)
+                self.assertEqual(exceptions(self.state(monitor)), exceptions(before))
+                new = self.tools.folder / "new"
+                new.write_bytes(compiled(NEW))
+                status, told = self.sh(scripts["hold"], "ceph", "osd", "setcrushmap", "-i", new)
+                now = self.state(monitor)
+                self.assertEqual((status, now["crush_version"]), (0, before["crush_version"] + 1), told)
+                self.assertNotIn("norebalance", now["flags"])
+                self.assertEqual(monitor.sets(), sets)
+                files = [self.tools.put("osd.json", now)]
+                files.append(self.tools.put("crush.json", json.loads(self.asked(monitor, "osd", "crush", "dump"))))
+                self.assertEqual(self.sh(self.output("release", *files))[0], 0)
+                self.assertLess(len(exceptions(self.state(monitor))), len(exceptions(now)))
 
     def right(self, monitor: ReefMonitor, scripts: dict[str, str]) -> None:
         """Asks that a plan runs, and its undoing leads back."""

@@ -8,17 +8,22 @@ from __future__ import annotations
 
 import json
 import pathlib
+import random
+from collections import Counter
 from collections.abc import Mapping
 from typing import Any
 
 from tests.cases import TOP
-from tests.clusters import Json, commands
+from tests.clusters import Json, commands, places, with_commands
+from tests.reaches import reach_of
 from tests.tool_cases import ToolCase
 
 CEPH = TOP / "examples" / "ceph"
 # The disks that are small, and what they may weigh; the groups of both pools and of the pool that is planned.
 SMALL, SIZES = (10, 11), {29802: 20, 59605: 22}
 GROUPS, PLANNED = 129, 128
+# How many groups the pool of a small tree has.
+TREE_GROUPS = 4096
 
 
 def with_weights(crush: Json, weights: Mapping[int, int]) -> Json:
@@ -31,6 +36,34 @@ def with_weights(crush: Json, weights: Mapping[int, int]) -> Json:
                 item["weight"] = of_bucket[item["id"]]["weight"]
         bucket["weight"] = sum(item["weight"] for item in bucket["items"])
     return crush
+
+
+def tree_of(rng: random.Random) -> Json:
+    """A map of a few unequal racks of unequal hosts and disks, and a pool of size 3 over hosts or racks."""
+    buckets: list[Json] = [{"id": -1, "items": [], "kind": "straw2", "type": 10}]
+    count = 0
+    for rack in range(rng.randint(3, 4)):
+        hosts = []
+        for host in range(rng.randint(1, 3)):
+            disks = [[count + at, rng.choice((1, 2, 4, 8)) * 32768] for at in range(rng.randint(1, 4))]
+            count += len(disks)
+            number = -100 - 10 * rack - host
+            buckets.append({"id": number, "items": disks, "kind": "straw2", "type": 1})
+            hosts.append([number, sum(weight for _, weight in disks)])
+        buckets.append({"id": -2 - rack, "items": hosts, "kind": "straw2", "type": 3})
+        buckets[0]["items"].append([-2 - rack, sum(weight for _, weight in hosts)])
+    steps = [["take", -1], ["chooseleaf_firstn", 0, rng.choice((1, 3))], ["emit"]]
+    return {
+        "version": 2,
+        "epoch": 1,
+        "max_osd": count,
+        "buckets": buckets,
+        "rules": [{"id": 0, "kind": "replicated", "steps": steps}],
+        "pools": [{"id": 1, "kind": "replicated", "pg_num": TREE_GROUPS, "pgp_num": TREE_GROUPS, "rule": 0, "size": 3}],
+        "osds": [{"exists": True, "id": osd, "up": True, "weight": 65536} for osd in range(count)],
+        "pg_upmap": [],
+        "pg_upmap_items": [],
+    }
 
 
 class Reach(ToolCase):
@@ -117,3 +150,20 @@ class Reach(ToolCase):
         told = self.tools.sets(value, "--stock").items()
         sets = [json.loads(own.split(" ")[0]) for group, own in told if group.startswith("2.")]
         return {osd: sum(osd in own for own in sets) for osd in range(12)}
+
+    def test_many_inputs(self) -> None:
+        """Over 30 small trees of unequal racks, hosts and disks, and 122,880 groups together, a plan brings each OSD
+        within 1.1 places, or a hundredth, of what the definition gives it of the places that there are.
+        """
+        rng = random.Random(1)
+        for _ in range(30):
+            value = tree_of(rng)
+            weights = {item: own * 65536 for bucket in value["buckets"] for item, own in bucket["items"] if item >= 0}
+            path = self.tools.put("tree", value)
+            lines = self.json("plan", path, "--alone")["commands"]
+            after = self.tools.sets(with_commands(value, lines), "--stock")
+            counts = Counter(osd for up in after.values() for osd in places(up))
+            (given,) = reach_of(value, value["pools"][0], weights)
+            groups = sum(counts.values()) / sum(given.values())
+            for osd, part in given.items():
+                self.assertLessEqual(abs(counts[osd] - groups * part), max(1.1, groups * part / 100), osd)
