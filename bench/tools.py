@@ -80,8 +80,8 @@ def speed_rows(runs: Folder) -> Iterator[Any]:
 
 
 def commands(output: str) -> list[Any]:
-    """The commands of a plan's output, without the comments round them."""
-    return [line for line in output.splitlines() if not line.startswith("#") and line != "set -e"]
+    """The commands of a plan's output that name groups, without the guards and comments round them."""
+    return [line for line in output.splitlines() if line.startswith("ceph osd ") and "pg-upmap" in line]
 
 
 def with_commands(stated: Any, lines: Any) -> list[Any]:

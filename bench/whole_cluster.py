@@ -33,7 +33,7 @@ from collections.abc import Iterator
 from typing import Any
 
 from running import Folder, heading, in_folder, output, program_at, table
-from tools import words
+from tools import commands, words
 
 LIMIT = 600
 # The clusters of the first table, in its order.
@@ -263,12 +263,7 @@ class Cluster:
     def plan(self, *more: Any) -> tuple[Any, Any]:
         """The commands of a plan, and its seconds; None where there is none."""
         told, seconds = ran(words(self.runs, "plan", *map(str, self.files), *more))
-        return (
-            None
-            if told is None
-            else [line for line in told.splitlines() if not line.startswith("#") and line != "set -e"],
-            seconds,
-        )
+        return None if told is None else commands(told), seconds
 
     def of_ceph(self, deviation: Any) -> tuple[Any, Any]:
         """The commands of `osdmaptool --upmap`, and its seconds; None where there is no such map or no such tool."""
