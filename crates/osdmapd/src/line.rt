@@ -23,8 +23,8 @@ const VERSION: &str = "0.2.0";
 /// What the program says of itself where help is asked for.
 const ABOUT: &str =
     "Keeps the OSDMap of a Ceph-like cluster: reads a map, answers the lines of scripts over it, one line each, all \
-scripts at once, and ends. Statuses: 0 done, 1 command line, 2 map refused, 3 file or output, 4 memory. The formats of \
-maps, changes, scripts and answers are in docs/FORMATS.md.";
+scripts at once, and ends. Statuses: 0 done, 1 command line, 2 map refused, 3 file or output, 4 memory, 7 a change was \
+lost. The formats of maps, changes, scripts and answers are in docs/FORMATS.md.";
 
 /// MAP.
 fn map_word<'a>(alloc: Global) -> Arg<'a>
