@@ -20,7 +20,7 @@ use Rattle.partjson.specs.declared.change.RawChange.{RawChange}
 use Rattle.partjson.specs.declared.change.RawReweight.{RawReweight}
 use Rattle.jsonstream.specs.Json.{stated_by}
 use Rattle.mapparts.specs.declared.profile.Profile.{Profile}
-use Rattle.partjson.specs.Profiles.{change_in}
+use Rattle.partjson.specs.Profiles.{change_in, unbased_in}
 
 -- ---- limits
 
@@ -133,3 +133,14 @@ pub record IsChangeStated (profile : Profile) (c : RawChange) (base : ℕ) (part
 abbrev pub StatesChange : Profile → List ℕ → ℕ × ChangeParts → Type 0
 StatesChange profile bytes answer =
     IfOk (stated_by (change_in profile) bytes) (λ c. IsChangeStated profile c answer.0 answer.1)
+
+-- ---- without a base
+
+-- why a text is refused as a change without a base
+abbrev pub unbased_text_fault : Profile → List ℕ → Option Refusal
+unbased_text_fault profile bytes = fault_of_stated_change profile (stated_by (unbased_in profile) bytes)
+
+-- the parts are those that a text states without a base, in order
+abbrev pub StatesUnbased : Profile → List ℕ → ChangeParts → Type 0
+StatesUnbased profile bytes parts =
+    IfOk (stated_by (unbased_in profile) bytes) (λ c. IsChangeStated profile c (nat_abs c.base) parts)

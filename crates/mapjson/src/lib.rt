@@ -18,7 +18,7 @@ ghost use Rattle.partjson.specs.StatedMaps.{stated_map};
 ghost use Rattle.partjson.specs.StatedChanges.{stated_change};
 ghost use Rattle.mapjson.specs.MapTexts.{map_fault_in, map_text_fault, StatesMap};
 ghost use Rattle.osdmap.specs.Stated.{IsStated};
-ghost use Rattle.mapjson.specs.ChangeTexts.{change_text_fault, StatesChange};
+ghost use Rattle.mapjson.specs.ChangeTexts.{change_text_fault, StatesChange, unbased_text_fault, StatesUnbased};
 ghost use Rattle.mapjson.specs.LoadTexts.{load_text_fault, StatesLoads};
 ghost use Rattle.mapjson.specs.Written.{written};
 ghost use Rattle.mapjson.specs.PartsOfChange.{change_parts};
@@ -34,7 +34,7 @@ use crate::written::{ToJson, write_parts};
 use mapparts::{MapParts, Profile};
 use maptypes::Change;
 use osdmap::OsdMap;
-use partjson::{read_change_parts, read_map_parts};
+use partjson::{read_change_parts, read_map_parts, read_unbased_parts};
 use refusal::{Memory, Refusal};
 use std::alloc::Global;
 
@@ -88,6 +88,19 @@ pub fn read_change(alloc: Global, bytes: &[u8], profile: Profile) -> Result<(u64
     let (base, parts) = change_within(alloc, &stated, profile)?;
     let change = Change::new(parts)?;
     Ok((base, change))
+}
+
+/// The change that a text states without a base.
+///
+/// # Errors
+///
+/// Those of [`read_change`], but that the base must not be there: a text that has one is refused by `BadField` (11).
+pub fn read_unbased(alloc: Global, bytes: &[u8], profile: Profile) -> Result<Change, Refusal>
+    ensures { Makes result (unbased_text_fault profile bytes.now) (StatesUnbased profile bytes.now) }
+{
+    let stated = read_unbased_parts(alloc, bytes, profile)?;
+    let (_, parts) = change_within(alloc, &stated, profile)?;
+    Ok(Change::new(parts)?)
 }
 
 /// What so many OSDs carry, by number, in 256ths of a group, as a text states it: a list of lists of an OSD and its

@@ -10,6 +10,7 @@ use Rattle.partjson.specs.declared.change.RawChange.{RawChange}
 use Rattle.jsonstream.specs.Json.{◌>>=◌}
 use Rattle.partjson.specs.StatedMaps.{stated_map}
 use Rattle.partjson.specs.StatedChanges.{stated_change}
+use Rattle.partjson.specs.UnbasedChanges.{unbased_change}
 
 -- whether a profile has the kinds of all buckets of a CRUSH map, and the steps of its rules, where there is one
 abbrev pub brings_kinds : Profile → Option CrushParts → Bool
@@ -30,3 +31,7 @@ map_in profile d = stated_map d >>= map_allowed profile
 -- the parts of the change that a value states, where it allows them
 abbrev pub change_in : Profile → Data → Option RawChange
 change_in profile d = stated_change d >>= change_allowed profile
+
+-- the parts of the change that a value states without a base, where it allows them
+abbrev pub unbased_in : Profile → Data → Option RawChange
+unbased_in profile d = unbased_change d >>= change_allowed profile

@@ -168,9 +168,9 @@ impl FromJson for CrushParts {
 
 /// The members of a change that have come.
 #[derive(Default, Drop)]
-struct ChangeSlots {
+pub(crate) struct ChangeSlots {
     unknown: bool,
-    base: Slot<i128>,
+    pub(crate) base: Slot<i128>,
     down: Slot<Entries<i128>>,
     grow_pool: Slot<Entries<GrowPart>>,
     new_crush: Slot<CrushParts>,

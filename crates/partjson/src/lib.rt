@@ -2,6 +2,7 @@
 //! a text with no tree of its values; their numbers are untested.
 //!
 //! - `map`, `change`, `loads`: maps, changes, and what OSDs carry
+//! - `unbased`: changes without a base
 //! - `forest`, `rules`, `pools`, `exceptions`: buckets, rules and their steps, pools and OSDs, groups and their
 //!   exceptions
 //! - `objects`, `slots`: what a value can state, objects, and the slots of their members
@@ -12,7 +13,7 @@
 #![tactic(auto)]
 
 ghost use Rattle.jsonstream.specs.Json.{Answers, stated_by};
-ghost use Rattle.partjson.specs.Profiles.{map_in, change_in};
+ghost use Rattle.partjson.specs.Profiles.{map_in, change_in, unbased_in};
 ghost use Rattle.partjson.specs.StatedLoads.{stated_loads};
 
 mod change;
@@ -26,6 +27,7 @@ mod pools;
 mod profile;
 mod rules;
 mod slots;
+mod unbased;
 mod values;
 mod whole;
 mod words;
@@ -33,6 +35,7 @@ mod words;
 pub use crate::change::{RawChange, RawReweight};
 pub use crate::loads::RawLoad;
 use crate::profile::{change_allowed, map_allowed};
+use crate::unbased::Unbased;
 use crate::whole::stated_by;
 use keylist::Entries;
 use mapparts::{MapParts, Profile};
@@ -70,6 +73,22 @@ pub fn read_change_parts(
 {
     let parts = stated_by(alloc, bytes)?;
     change_allowed(profile, parts).ok_or(Refusal::BadField)
+}
+
+/// The parts of the change that a text states without a base: those that it would state with the base 0.
+///
+/// # Errors
+///
+/// Those of [`read_change_parts`], but that the base must not be there.
+pub fn read_unbased_parts(
+    alloc: Global,
+    bytes: &[u8],
+    profile: Profile,
+) -> Result<RawChange, Refusal>
+    ensures { Answers result (stated_by (unbased_in profile) bytes.now) }
+{
+    let unbased: Unbased = stated_by(alloc, bytes)?;
+    change_allowed(profile, unbased.change).ok_or(Refusal::BadField)
 }
 
 /// What OSDs carry as a text states it: a list of lists of an OSD and a number.
