@@ -105,6 +105,11 @@ TOLD: list[tuple[str, str, str]] = [
     ),
     (
         "docs/FORMATS.md",
+        "more than {} pools (under `--stock` {}) or {} groups after it",
+        f"{POOLS.split()[0]} mapparts.MAX_POOLS mapparts.MAX_TOTAL_GROUPS",
+    ),
+    (
+        "docs/FORMATS.md",
         "`LIMIT` one from 1 to {}, and `APART` one of 32 bits from {} on",
         "balancer.MAX_MOVES balancer.LEAST_APART",
     ),
@@ -234,9 +239,10 @@ class LimitsTold(Case):
         """A limit that is raised is not that of the pages any more"""
         raised = {
             **self.texts,
-            "mapparts": self.texts["mapparts"].replace("MAX_POOLS: usize = 256", "MAX_POOLS: usize = 1_024"),
+            "mapparts": re.sub(r"(MAX_POOLS: usize =) [\d_]+", r"\1 1_000_000", self.texts["mapparts"]),
         }
-        self.assertEqual(constant("mapparts.MAX_POOLS", raised), 1024)
+        self.assertEqual(constant("mapparts.MAX_POOLS", raised), 1_000_000)
+        self.assertLess(constant("mapparts.MAX_POOLS", self.texts), 1_000_000)
         self.assertGreater(sum("mapparts.MAX_POOLS" in names for _, _, names in TOLD), 4)
 
 

@@ -8,6 +8,10 @@ import pathlib
 import re
 import unittest
 
+from rekhuso.commands import COMMANDS
+from rekhuso.program import maps
+from rekhuso.program.map_forms import PARTS, REFUSALS
+
 from tests.cases import TOP, Case
 
 # Names of other libraries, and of Ceph's options, that a page speaks of and no file has.
@@ -80,12 +84,15 @@ LISTS = {
     "A refusal": {"Refusal": "refusal/src/refused.rt"},
 }
 NOT_LOOKED_FOR = {"Memory"}
-# The words of each list, as a part of docs/FORMATS.md has them, and what share of them a file of the tools, the tests,
-# the benches or the pages has at least between quotes or by itself if it is a place of the list.
+# The words of each list, but for those that mean other things elsewhere, and what share of them a file of the tools, the
+# tests, the benches or the pages has at least between quotes or by itself if it is a place of the list.
 KEY_OF_MAP = "A key of a map"
 TYPES_OF_KEYS = r"\b(?:MapParts|OsdPart|PoolPart|OsdState)\b"
-CHANGE_KEYS = "old_pools new_crush new_pools grow_pool down weight old_upmap new_upmap old_items new_items"
-MAP_KEYS = "max_osd buckets rules pools osds pg_upmap pg_upmap_items pg_num pgp_num exists"
+CHANGE_KEYS = " ".join({*PARTS} - {"up"})
+MAP_KEYS = " ".join(
+    {*maps.Map.__annotations__, *maps.Pool.__annotations__, *maps.Osd.__annotations__}
+    - {"version", "epoch", "id", "kind", "rule", "size", "up", "weight"}
+)
 LINES = "up count groups epoch dump change await balance follow fup fkept fdump"
 WORDS_OF_LISTS = {
     "A kind of bucket": ("uniform list tree straw2", 0.75),
@@ -250,7 +257,8 @@ def beside_crates() -> dict[pathlib.Path, str]:
 
 def options_of_programs() -> list[str]:
     """The options of the programs, without their hyphens."""
-    lines = [text("crates", "cli", "src", "arguments.rt"), text("crates", "osdmapstore", "src", "line.rt")]
+    files = (("cli", "arguments"), ("osdmapd", "line"), ("osdmapstore", "line"))
+    lines = [text("crates", crate, "src", f"{name}.rt") for crate, name in files]
     return re.findall(r'\.long\("([\w-]+)"\)', "".join(lines))
 
 
@@ -346,9 +354,18 @@ class Pages(Case):
         }
         unknown = {named for named in said if named[1] not in known | OPTIONS_OF_OTHERS}
         idle = OPTIONS_OF_OTHERS - {option for _, option in said}
-        self.assertEqual(len({*own}), 9, (unknown, idle))
+        self.assertGreater(len({*own}), 5, (unknown, idle))
         self.assertFalse(unknown, (unknown, idle))
         self.assertFalse(idle, (unknown, idle))
+
+    def test_tools(self) -> None:
+        """tools/README.md has a row for each command, in the order of the help; docs/CEPH.md names each option of the
+        tools, but for those that they hand to a program"""
+        self.assertEqual(re.findall(r"^\| `(\w+)` \| `commands/", text("tools", "README.md"), re.M), [*COMMANDS])
+        code = "".join(path.read_text("utf-8") for path in (TOP / "tools" / "rekhuso").rglob("*.py"))
+        own = {*re.findall(r'"(--[a-z][\w-]*)"', code)} - {f"--{name}" for name in options_of_programs()} - OF_PARSERS
+        self.assertGreater(len(own), 20)
+        self.assertFalse(own - {*re.findall(r"(?<![\w-])--[a-z][\w-]*", text("docs", "CEPH.md"))}, "are not named")
 
     def test_files(self) -> None:
         """Each file of the repository that a page names is there"""
@@ -483,8 +500,16 @@ class Pages(Case):
         self.assertEqual(said, reasons)
 
     def test_numbers_of_refusals(self) -> None:
-        """The page of `refusal` tells the least and the greatest number of each of the two kinds of refusals"""
-        numbers = [int(found) for found in re.findall(r"^\| (\d+) \| `?\w+`? \|", text("docs", "FORMATS.md"), re.M)]
+        """docs/FORMATS.md has a row for each number of a refusal, with its name, and the page of `refusal` tells the
+        least and the greatest number of each of the two kinds"""
+        own = text("crates", "refusal", "specs", "Refusals.antt")
+        names = dict(re.findall(r'^name_of \(?(\w+).* = codes "(\w+)"$', own, re.M))
+        numbers = {
+            int(number): names[kind] for kind, number in re.findall(r"^number_of \(?(\w+).* = (\d+)$", own, re.M)
+        }
+        rows = re.findall(r"^\| (\d+) \| `?(\w+)`? \|", text("docs", "FORMATS.md"), re.M)
+        self.assertEqual({int(number): name for number, name in rows}, numbers)
+        self.assertLessEqual(REFUSALS.items(), numbers.items())
         of_maps, others = [own for own in numbers if own < 20], [own for own in numbers if own >= 20]
         said = found_in(r"`number` \(([^)]*)\)", flat(TOP / "crates" / "refusal" / "README.md"))
         ends = [int(found) for found in re.findall(r"\d+", said)]

@@ -118,10 +118,12 @@ class Schemas(unittest.TestCase):
     is_form = True
 
     def test_commands(self) -> None:
-        """Each command that has `--json` has a schema, and no other."""
+        """Each command that has `--json` has a schema and a row in docs/CEPH.md, and no other."""
         files = (TOP / "tools" / "rekhuso" / "commands").glob("*.py")
         found = re.findall(r'put_json\(\s*"(\w+)"', "".join(file.read_text() for file in files))
         self.assertEqual({path.stem for path in SCHEMAS.glob("*")}, set(found))
+        rows = (TOP / "docs" / "CEPH.md").read_text().split("\n## JSON\n")[1].split("\n### ")[0]
+        self.assertEqual(set(re.findall(r"^\| `(\w+)` \|", rows, re.M)), set(found))
 
     def test_forms(self) -> None:
         """A schema says what is looked at here alone; what it requires it has, and what it has is used."""

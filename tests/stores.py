@@ -12,8 +12,10 @@ import sqlite3
 import struct
 import subprocess
 import tempfile
-from collections.abc import Callable, Iterator, Sequence
+from collections.abc import Iterator, Sequence
 from typing import Any
+
+from rekhuso.program.map_forms import GROUPS, OSDS, POOLS, key_of, parts_of
 
 from tests.cases import EXAMPLE, TOP, Case
 from tests.clusters import Json
@@ -23,19 +25,6 @@ BUILT = TOP / "crates" / "osdmapstore" / "out" / "osdmapstore"
 SECONDS = 60
 # What a run tells once it has made all the changes that its journal has room for.
 FULL = "journal: full, so this run takes no more changes\n"
-# The lists of a change, each with what its entries are put in order by.
-ORDERS: dict[str, Callable[[Any], Any]] = {
-    "old_pools": lambda entry: entry,
-    "new_pools": lambda entry: entry["id"],
-    "grow_pool": lambda entry: entry[0],
-    "down": lambda entry: entry,
-    "up": lambda entry: entry,
-    "weight": lambda entry: entry[0],
-    "old_upmap": lambda entry: group_key(entry),
-    "old_items": lambda entry: group_key(entry),
-    "new_upmap": lambda entry: group_key(entry[0]),
-    "new_items": lambda entry: group_key(entry[0]),
-}
 # The bytes at the end of each page that have its sum, and where the first page says how many there are.
 SUM_BYTES, RESERVED_AT = 8, 20
 
@@ -155,11 +144,17 @@ def group_key(group: str) -> tuple[int, int]:
     return int(pool), int(number, 16)
 
 
+def place_of(entry: Any) -> Any:
+    """What an entry of a list of a change is put in order by: its pool, its OSD or its group."""
+    key = key_of(entry)
+    return group_key(key) if isinstance(key, str) else key
+
+
 def written_change(change: Json) -> str:
     """The written form of a change: all keys but `new_crush` where there is none, and each list in its order."""
     parts: dict[str, Any] = {"base": change["base"]}
-    for name, key in ORDERS.items():
-        parts[name] = sorted(change.get(name, []), key=key)
+    for name in parts_of(POOLS, OSDS, GROUPS):
+        parts[name] = sorted(change.get(name, []), key=place_of)
     if "new_crush" in change:
         brought = change["new_crush"]
         parts["new_crush"] = {

@@ -1,28 +1,7 @@
-"""Commands, a module for each:
+"""Commands, a module for each, by its name; `import` is in `import_.py`.
 
-| Command   | Module       | Does                                      |
-|-----------|--------------|-------------------------------------------|
-| `import`  | `import_.py` | a map of what Ceph's tools dump           |
-| `verify`  | `verify.py`  | whether a cluster lies where maps say     |
-| `check`   | `check.py`   | whether a map or a change is lawful       |
-| `plan`    | `plan.py`    | a balancer's plan as Ceph's commands      |
-| `net`     | `net.py`     | the fewest pairs for the same sets        |
-| `df`      | `df.py`      | the tree with the groups of each OSD      |
-| `diff`    | `diff.py`    | what differs between two maps             |
-| `whatif`  | `whatif.py`  | what moves if a change is made            |
-| `hold`    | `hold.py`    | exceptions that hold groups behind a change |
-| `together` | `together.py` | gives a hold and its CRUSH map in one map |
-| `release` | `release.py` | the way from what is held, in parts       |
-| `drain`   | `drain.py`   | empties OSDs or hosts, part by part       |
-| `next`    | `next.py`    | the commands of a plan that may be given now |
-| `explain` | `explain.py` | why a group is where it is                |
-| `picture` | `picture.py` | the OSDs and their shares as SVG          |
-| `report`  | `report.py`  | one HTML page of a map                    |
-| `shell`   | `shell.py`   | a prompt over a live session              |
-| `history` | `history.py` | what changed in a store, epoch by epoch   |
-| `backup`  | `backup.py`  | a copy of a store in one file             |
-
-`arguments.py` has what several of them take, and `whatif_words.py` the words of `whatif`.
+`arguments.py` has what several of them take, and other modules the words of single ones. tools/README.md says what each
+does.
 """
 
 from __future__ import annotations
@@ -30,12 +9,7 @@ from __future__ import annotations
 import importlib
 from types import ModuleType
 
-COMMANDS = (
-    *("import", "verify", "check", "plan", "net", "df", "diff", "whatif", "hold", "together", "release"),
-    *("drain", "next", "explain", "picture", "report"),
-    *("shell", "history", "backup"),
-)
-# What each is typed as.
+# Each command in the order of the help, with what it is typed as.
 EXAMPLES = {
     "import": "import osd.json crush.json --names names.json > map.json",
     "verify": "verify osd.json crush.json --pgs pgs.json",
@@ -57,6 +31,7 @@ EXAMPLES = {
     "history": "history cluster.store --json",
     "backup": "backup cluster.store copy.store",
 }
+COMMANDS = tuple(EXAMPLES)
 
 
 def module_of(command: str) -> ModuleType:

@@ -12,6 +12,7 @@ from ..cluster.view import ClusterView
 from ..faults import Fault, Misuse
 from ..files import text_of
 from ..plans.question import accepted
+from ..program.map_forms import CHANGE_KEYS
 from ..program.maps import Change, Program
 from ..values import SLOTS
 from .arguments import Arguments, Parser
@@ -29,13 +30,6 @@ CHANGE_OPTIONS = {
     "crush": "--crush",
     "pool": "--pool",
 }
-# What stands in a change as JSON.
-CHANGE_PARTS = frozenset(
-    [
-        *("base", "old_pools", "new_crush", "new_pools", "grow_pool", "down", "up", "weight"),
-        *("old_upmap", "old_items", "new_upmap", "new_items"),
-    ]
-)
 
 
 @dataclass(frozen=True, **SLOTS)
@@ -95,7 +89,7 @@ def has_change(path: str) -> bool:
         value = change_value("" if path == "-" else text_of(path))
     except (Fault, ValueError):
         return False
-    return bool(value) and value.keys() <= CHANGE_PARTS
+    return bool(value) and value.keys() <= CHANGE_KEYS
 
 
 def add_change_words(own: argparse.ArgumentParser) -> None:

@@ -21,7 +21,7 @@ from ..cluster.unrest import told_unrest, unrest_lines
 from ..cluster.view import ClusterView, view_of_cluster
 from ..faults import Fault
 from ..program.answers import Up
-from ..program.map_forms import change_form
+from ..program.map_forms import GROUPS, POOLS, change_form, key_of, parts_of
 from ..program.maps import Change, Entry, Map, Program, group_key, groups_of, written
 from ..values import SLOTS
 from ..words import some
@@ -81,7 +81,7 @@ def balanced_sets(whole: ClusterView, program: Program, balance: Balance) -> Clu
 
 def pool_in(entry: Entry | int | str) -> int:
     """The pool that an entry of a change names, by its id or by a group."""
-    key = entry[0] if isinstance(entry, list) else entry
+    key = key_of(entry)
     return key if isinstance(key, int) else int(key.split(".")[0])
 
 
@@ -98,7 +98,7 @@ def change_for(value: Map, change: Change, maps: list[Map]) -> Change:
     own = {pool["id"] for pool in value["pools"]}
     others = {pool["id"] for each in maps for pool in each["pools"]} - own
     found = dict(change)
-    for key in ("old_pools", "grow_pool", "old_upmap", "old_items", "new_upmap", "new_items"):
+    for key in parts_of(POOLS, GROUPS):
         if key in change:
             mine = [
                 entry

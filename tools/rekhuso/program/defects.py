@@ -5,7 +5,20 @@ from __future__ import annotations
 from collections import Counter
 from typing import Any, Iterable, cast
 
-from .map_forms import Defect, Defects, Limits, change_form, limits_of, map_form
+from .map_forms import (
+    GROUPS,
+    OSDS,
+    PARTS,
+    POOLS,
+    Defect,
+    Defects,
+    Limits,
+    change_form,
+    key_of,
+    limits_of,
+    map_form,
+    parts_of,
+)
 from .maps import Change, Entry, Map, Pool, Rule, entries_of, group_key
 from .rule_grammar import rule_fault
 
@@ -87,6 +100,13 @@ def osds_in(entry: Entry) -> list[int]:
     return [osd for part in entry for osd in (part if isinstance(part, list) else [part])]
 
 
+def osds_named(key: str, entry: Any) -> list[int]:
+    """The OSDs that an entry of a part of a change names: itself one, or in an exception; a bare group names none."""
+    if PARTS[key].names == OSDS:
+        return [key_of(entry)]
+    return osds_in(entry[1]) if isinstance(entry, list) else []
+
+
 def exception_defects(value: Map) -> Defects:
     """Exceptions of groups or OSDs that are not there, or that break their form."""
     pools = {pool["id"]: pool for pool in value["pools"]}
@@ -148,10 +168,9 @@ class ChangeTest:
 
     def osd_places(self) -> Defects:
         """OSDs that are not there, and reweights above the whole share."""
-        for key in ("down", "up", "weight", "new_upmap", "new_items"):
+        for key in parts_of(OSDS, GROUPS):
             for at, entry in enumerate(self.change.get(key, [])):
-                named = [entry] if isinstance(entry, int) else [entry[0]] if key == "weight" else osds_in(entry[1])
-                for osd in sorted(set(named) - self.there):
+                for osd in sorted(set(osds_named(key, entry)) - self.there):
                     yield Defect(21, f"{key}[{at}]", f"osd.{osd} does not exist")
                 if key == "weight" and entry[1] > 65536:
                     yield Defect(22, f"weight[{at}][1]", f"{entry[1]:,}, at most 65,536")
@@ -192,9 +211,9 @@ class ChangeTest:
 
     def group_places(self) -> Defects:
         """Groups that are not there, and exceptions that break their form."""
-        for key in ("old_upmap", "old_items", "new_upmap", "new_items"):
+        for key in parts_of(GROUPS):
             for at, entry in enumerate(self.change.get(key, [])):
-                group = entry if isinstance(entry, str) else entry[0]
+                group = key_of(entry)
                 pool, own = group_key(group)
                 if pool not in self.pools:
                     yield Defect(23, f"{key}[{at}]", f"no pool {pool}")
@@ -209,31 +228,11 @@ class ChangeTest:
 
         def keys(part: str) -> list[Any]:
             """The keys of a part's entries."""
-            return [
-                entry["id"] if isinstance(entry, dict) else entry[0] if isinstance(entry, list) else entry
-                for entry in self.change.get(part, [])
-            ]
+            return [key_of(entry) for entry in self.change.get(part, [])]
 
-        for part in (
-            "old_pools",
-            "new_pools",
-            "grow_pool",
-            "down",
-            "up",
-            "weight",
-            "old_upmap",
-            "old_items",
-            "new_upmap",
-            "new_items",
-        ):
+        for part in parts_of(POOLS, OSDS, GROUPS):
             yield from twice(keys(part), part + "[{}]", 27, "the key")
-        for left, right in (
-            ("old_pools", "new_pools"),
-            ("new_pools", "grow_pool"),
-            ("down", "up"),
-            ("old_upmap", "new_upmap"),
-            ("old_items", "new_items"),
-        ):
+        for left, right in ((key, part.beside) for key, part in PARTS.items() if part.beside):
             for key in sorted(set(keys(left)) & set(keys(right))):
                 yield Defect(27, f"{left} and {right}", f"{key} stands in both")
 

@@ -8,7 +8,7 @@ from __future__ import annotations
 
 import re
 from dataclasses import dataclass
-from typing import Callable, Iterator
+from typing import Any, Callable, Iterator
 
 from ..values import SLOTS
 
@@ -259,11 +259,16 @@ def buckets(is_stock: bool) -> Form:
     return list_of(bucket(is_stock), 1, limits_of(is_stock).buckets)
 
 
+def pool_id(_: Limits) -> Form:
+    """The id of a pool."""
+    return number_between(1, 65535)
+
+
 def pool(limits: Limits) -> Form:
     """A pool."""
     return object_of(
         {
-            "id": number_between(1, 65535),
+            "id": pool_id(limits),
             "kind": one_of(*POOL_KINDS),
             "pg_num": number_between(1, limits.groups),
             "pgp_num": number_between(1, limits.groups),
@@ -309,16 +314,15 @@ def pairs(limits: Limits) -> Form:
     return list_of(tuple_of(group, list_of(pair, 0, limits.size)), 0, limits.entries)
 
 
+def rule(has_tries: bool, is_stock: bool) -> Form:
+    """A rule."""
+    steps = list_of(rule_step(has_tries, is_stock), 1, 16)
+    return object_of({"id": number_between(0, 255), "kind": one_of(*POOL_KINDS), "steps": steps})
+
+
 def rules(has_tries: bool, is_stock: bool) -> Form:
     """The rules of a map."""
-    rule = object_of(
-        {
-            "id": number_between(0, 255),
-            "kind": one_of(*POOL_KINDS),
-            "steps": list_of(rule_step(has_tries, is_stock), 1, 16),
-        }
-    )
-    return list_of(rule, 1, limits_of(is_stock).rules)
+    return list_of(rule(has_tries, is_stock), 1, limits_of(is_stock).rules)
 
 
 def map_form(has_tries: bool, is_stock: bool) -> Form:
@@ -338,24 +342,68 @@ def map_form(has_tries: bool, is_stock: bool) -> Form:
     )
 
 
+def crush(limits: Limits) -> Form:
+    """The forest and the rules that a change brings."""
+    is_stock = limits == STOCK
+    return object_of({"buckets": buckets(is_stock), "rules": rules(True, is_stock)})
+
+
+def growth(limits: Limits) -> Form:
+    """A pool and its numbers of groups."""
+    return tuple_of(pool_id(limits), number_between(1, limits.groups), number_between(1, limits.groups))
+
+
+def reweight(limits: Limits) -> Form:
+    """An OSD and its reweight."""
+    return tuple_of(osd_id(limits), number_between(0, 2**32 - 1))
+
+
+def entries(entry: Callable[[Limits], Form]) -> Callable[[Limits], Form]:
+    """A list of a change, by the form of an entry."""
+    return lambda limits: list_of(entry(limits), 0, limits.entries)
+
+
+# What the entries of a part of a change name: pools, OSDs, groups; or it is no list.
+POOLS, OSDS, GROUPS, CRUSH = "pools", "osds", "groups", "crush"
+
+
+@dataclass(frozen=True, **SLOTS)
+class Part:
+    """A part of a change: what its entries name, its form, and the part in which none of its keys may stand too."""
+
+    names: str
+    form: Callable[[Limits], Form]
+    beside: str | None = None
+
+
+# The parts of a change by their keys, in the order of docs/FORMATS.md. Nowhere else in the tools stand all of them.
+PARTS = {
+    "old_pools": Part(POOLS, entries(pool_id), "new_pools"),
+    "new_crush": Part(CRUSH, crush),
+    "new_pools": Part(POOLS, entries(pool), "grow_pool"),
+    "grow_pool": Part(POOLS, entries(growth)),
+    "down": Part(OSDS, entries(osd_id), "up"),
+    "up": Part(OSDS, entries(osd_id)),
+    "weight": Part(OSDS, entries(reweight)),
+    "old_upmap": Part(GROUPS, entries(lambda _: group), "new_upmap"),
+    "old_items": Part(GROUPS, entries(lambda _: group), "new_items"),
+    "new_upmap": Part(GROUPS, explicit_sets),
+    "new_items": Part(GROUPS, pairs),
+}
+CHANGE_KEYS = frozenset(["base", *PARTS])
+
+
+def parts_of(*names: str) -> list[str]:
+    """The parts of a change whose entries name any of these."""
+    return [key for key, part in PARTS.items() if part.names in names]
+
+
+def key_of(entry: Any) -> Any:
+    """What an entry of a part names: itself, or its `id`, or what stands first in it."""
+    return entry["id"] if isinstance(entry, dict) else entry[0] if isinstance(entry, list) else entry
+
+
 def change_form(is_stock: bool) -> Form:
     """A change."""
     limits = limits_of(is_stock)
-    groups, number, most = number_between(1, limits.groups), osd_id(limits), limits.entries
-    crush = object_of({"buckets": buckets(is_stock), "rules": rules(True, is_stock)})
-    return object_of(
-        {"base": number_between(0, 2**64 - 1)},
-        {
-            "old_pools": list_of(number_between(1, 65535), 0, most),
-            "new_crush": crush,
-            "new_pools": list_of(pool(limits), 0, most),
-            "grow_pool": list_of(tuple_of(number_between(1, 65535), groups, groups), 0, most),
-            "down": list_of(number, 0, most),
-            "up": list_of(number, 0, most),
-            "weight": list_of(tuple_of(number, number_between(0, 2**32 - 1)), 0, most),
-            "old_upmap": list_of(group, 0, most),
-            "old_items": list_of(group, 0, most),
-            "new_upmap": explicit_sets(limits),
-            "new_items": pairs(limits),
-        },
-    )
+    return object_of({"base": number_between(0, 2**64 - 1)}, {key: part.form(limits) for key, part in PARTS.items()})
