@@ -30,6 +30,19 @@ axioms os: 1 reached of the 22 declared
 axioms std: none reached of the 2 declared
 logic=proved functions=7 axioms=7 target=x86_64 sum=da logic-built=trusted incremental=trusted
 """
+# What a gate tells: it names a crate before its check, and the tests of one too.
+GATE = """\
+== low
+logic=proved functions=15 sum=da
+rt: low proved
+== low: its tests
+axioms std: std::process::c::abort (1 of the 2 declared)
+logic=proved tests=3 functions=19 axioms=1
+rt: low: its tests are proved
+rt: other is kept: an earlier run on this machine proved the same files over the same libraries
+== top
+logic=proved functions=8 sum=da
+"""
 
 
 def rows(lines: list[str]) -> dict[str, list[int]]:
@@ -50,6 +63,8 @@ class Trusted(Case):
         self.assertEqual((demo.crate, demo.words["axioms"], demo.libraries), ("demo", "7", {"std": 7}))
         libc = ["libc::heap::alloc", "libc::heap::dealloc", "libc::heap::realloc"]
         self.assertEqual(demo.functions, {"libc": (6, 128, libc), "os": (1, 22, ["os::c::errno"])})
+        gate = [(own.crate, own.words["functions"]) for own in trust.verdicts_in(GATE)]
+        self.assertEqual(gate, [("low", "15"), ("top", "8")])
 
     def test_counted(self) -> None:
         """The lines of definitions and of tools that the page counts are about those of the sources"""

@@ -4,7 +4,8 @@
     trust.py LOG [ROOT] > bench/results/trust.md
 
 Of the log it reads the last line of each crate's check (`logic=proved ..`) and the lines above it that name C functions
-(`axioms CRATE: ..`, or the lists of `--list-axioms`). Of the sources it counts the definitions of `specs/`: all, and
+(`axioms CRATE: ..`, or the lists of `--list-axioms`). A check names its crate itself (`crate NAME: ..`), a gate before it
+(`== NAME`); what a gate says of the tests of a crate is passed over. Of the sources it counts the definitions of `specs/`: all, and
 those that the contracts of the promises cite, directly or by another definition; and the lines of the tools.
 """
 
@@ -84,7 +85,7 @@ class Module(NamedTuple):
 
 
 def verdicts_in(log: str) -> Iterator[Verdict]:
-    """The verdicts of a log in their order, one for each line that says that a crate is proved."""
+    """The verdicts of a log in their order, one for each line that says that a crate is proved; but for its tests."""
     crate, library = "", ""
     libraries: dict[str, int] = {}
     functions: dict[str, tuple[int, int, list[str]]] = {}
@@ -93,14 +94,14 @@ def verdicts_in(log: str) -> Iterator[Verdict]:
             libraries, functions = {}, {}
         elif found := re.match(r"statements (\w+): modules loaded=(\d+)", line):
             libraries[found[1]] = int(found[2])
-        elif found := re.match(r"crate (\w+): modules", line):
-            crate = found[1]
+        elif found := re.match(r"crate (\w+): modules|== (\w+)", line):
+            crate = found[1] or found[2]
         elif found := re.match(r"axioms (\w+): (.*?)\(?(\d+) (?:reached )?of the (\d+) declared\)?$", line):
             library = found[1]
             functions[library] = (int(found[3]), int(found[4]), re.findall(r"[\w:]+::\w+", found[2]))
         elif found := re.match(r"  ([\w:]+) +reached$", line):
             functions[library][2].append(found[1])
-        elif line.startswith("logic=proved"):
+        elif line.startswith("logic=proved") and " tests=" not in line:
             yield Verdict(crate, dict(word.split("=", 1) for word in line.split()), libraries, functions)
 
 
@@ -218,13 +219,14 @@ def words_told(verdicts: list[Verdict]) -> Iterator[str]:
         yield from (f"| `{shown}` | {count} | {WORDS[word]} |" for shown, count in rows)
 
 
-def libraries_told(verdicts: list[Verdict]) -> Iterator[str]:
+def libraries_told(root: pathlib.Path, verdicts: list[Verdict]) -> Iterator[str]:
     """The libraries of the kit whose statements the proofs cite: of each the most modules of one crate."""
+    own_crates = {path.name for path in (root / "crates").iterdir()}
     most: dict[str, int] = {}
     for own in verdicts:
         for library, count in own.libraries.items():
             most[library] = max(count, most.get(library, 0))
-    rows = [(f"`{library}`", count) for library, count in sorted(most.items()) if count]
+    rows = [(f"`{name}`", count) for name, count in sorted(most.items()) if count and name not in own_crates]
     yield from table(["library of the kit", "modules of statements"], rows)
 
 
@@ -254,7 +256,7 @@ def main() -> None:
     print("\n## What the verdicts say\n")
     print(*words_told([*verdicts.values()]), sep="\n")
     print("\n## Libraries of the kit\n")
-    print(*libraries_told([*verdicts.values()]), sep="\n")
+    print(*libraries_told(root, [*verdicts.values()]), sep="\n")
     for own in programs:
         print(f"\n## C functions below {own.crate}\n")
         print(*functions_told(own), sep="\n")
