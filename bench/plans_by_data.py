@@ -72,7 +72,7 @@ def parts_of(count: int) -> list[float]:
     return [size * count / sum(sizes) for size in sizes]
 
 
-class Held:
+class Filled:
     """What OSDs have of all pools by some sets, and what they are to have, by what each group holds."""
 
     def __init__(self, cluster: Cluster, sets: Any) -> None:
@@ -123,7 +123,7 @@ def least_of(cluster: Cluster, barred: set[int]) -> float:
         )
         if places.total():
             pools[number] = places, min(parts_of(pool["pg_num"])) * cluster.places[number]
-    want = Held(cluster, cluster.start).want
+    want = Filled(cluster, cluster.start).want
     return Least(pools, {osd: own for osd, own in want.items() if own > 0}, fixed).bound()
 
 
@@ -152,7 +152,7 @@ def rows_of(cluster: Cluster, draw: int, more: list[str], counts: Counter[str]) 
     found = json.loads(told)
     sets = cluster.sets(found["commands"])
     before, after = cluster.measured(cluster.start)[:5], cluster.measured(sets)[:5]
-    fullest = [Held(cluster, own).fullest() for own in (cluster.start, sets)]
+    fullest = [Filled(cluster, own).fullest() for own in (cluster.start, sets)]
     is_worse = (
         any(now > then * (1 + 1e-9) + 1e-9 for then, now in zip(before[:3], after[:3])) or fullest[1] > fullest[0]
     )

@@ -13,7 +13,7 @@ from rekhuso.plans.at_rest import AtRest
 from rekhuso.plans.bounds import Measure
 from rekhuso.plans.cycles import without_cycles
 from rekhuso.plans.gains import gains
-from rekhuso.plans.least import Places, least_for
+from rekhuso.plans.least import FittingPlaces, least_for
 from rekhuso.plans.loads import STEP_PARTS
 from rekhuso.plans.step_order import StepOrder, parts_in_order
 from rekhuso.plans.steps import PlanStep
@@ -144,7 +144,7 @@ class PlansEnd(StockCase):
             worst = min(
                 max([(fixed[osd] + size * own) / wanted[osd] for osd, own in enumerate(way) if own]) for way in ways
             )
-            found = least_for(partial(Places(count, size, domains).fit, wanted, fixed))
+            found = least_for(partial(FittingPlaces(count, size, domains).fit, wanted, fixed))
             self.assertLessEqual(found, worst + 1e-9)
             self.assertGreater(found, worst - 1e-3)
 

@@ -47,7 +47,7 @@ from tests.tool_cases import StockCase
 
 # A map, the hosts of its OSDs, the racks of its hosts, and the weights of its OSDs; how many bytes each pool holds.
 RandomCluster = tuple[Json, dict[int, int], Optional[dict[int, int]], dict[int, int]]
-Held = dict[int, int]
+PoolBytes = dict[int, int]
 MOST = 1024
 # Stock clusters of few groups, that come in as one map or two, and one of many pools.
 FEW = ["002-proxmox", "004-one-host", "005-openstack-mixed", "011-drained", "019-two-roots", "025-many-pools"]
@@ -71,7 +71,7 @@ def random_cluster(rng: random.Random) -> RandomCluster:
 class Model:
     """The definition of a whole plan over a random cluster."""
 
-    def __init__(self, cluster: RandomCluster, held: Held | None = None, is_by_weight: bool = False) -> None:
+    def __init__(self, cluster: RandomCluster, held: PoolBytes | None = None, is_by_weight: bool = False) -> None:
         self.is_by_weight = is_by_weight
         value, self.host_of, self.rack_of, weight_of = cluster
         self.sizes = {pool["id"]: pool["size"] for pool in value["pools"]}
@@ -491,7 +491,7 @@ def is_of(line: str, value: Json) -> bool:
 class ClusterPlans(StockCase):
     """What `plan` does of all pools."""
 
-    def df_of(self, held: Held, name: str = "df") -> pathlib.Path:
+    def df_of(self, held: PoolBytes, name: str = "df") -> pathlib.Path:
         """A file as `ceph df` prints it, of pools that hold so many bytes."""
         stats = [
             {"id": pool, "name": f"pool{pool}", "stats": {"bytes_used": size, "stored": size}}

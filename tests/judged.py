@@ -21,7 +21,7 @@ from rekhuso.commands import drain as drain_command
 from rekhuso.commands import hold as hold_command
 from rekhuso.output import plan_scripts
 from rekhuso.plans import drain, hold, plan, rounds, step_order, steps
-from rekhuso.plans.bounds import Fullness, Measure, Step
+from rekhuso.plans.bounds import Filling, Measure, Step
 from rekhuso.plans.printed_commands import commands_in
 from rekhuso.plans.steps import PlanStep
 from rekhuso.program.maps import altered
@@ -328,7 +328,7 @@ class Judged(StockCase):
             """The fault of a part of some moves, each of one place from an OSD to another."""
             measure = Measure(Spread({}, share), None, dict(enumerate(end)), limits)
             part = [Step(f"step {at}", [to], [] if was is None else [was], 1) for at, (was, to) in enumerate(moves)]
-            found = Fullness(measure, dict(enumerate(has))).part(part)
+            found = Filling(measure, dict(enumerate(has))).part(part)
             return None if found is None else found[0]
 
         full = [13.0, 10, 9, 8]

@@ -14,7 +14,7 @@ import pickle
 import re
 import sys
 import unittest
-from collections import defaultdict
+from collections import Counter, defaultdict
 from collections.abc import Iterator
 
 from tests.cases import TOP
@@ -30,8 +30,6 @@ PACKAGE = TOOLS / "rekhuso"
 LAYERS = ("program", "cluster", "plans", "output", "commands")
 ABOVE = {"__init__": 1, **dict.fromkeys(("command_line", "uses", "completions", "manuals"), len(LAYERS) + 1)}
 ABOVE["__main__"] = len(LAYERS) + 2
-# Words that mean two things in the plans: of a pool's moves and of a map.
-TWICE = {"Places", "Fullness", "Held"}
 
 Import = tuple[pathlib.Path, pathlib.Path, str]
 
@@ -94,11 +92,16 @@ class Layers(unittest.TestCase):
         self.assertGreater(len(list(graphlib.TopologicalSorter(below).static_order())), 100)
 
     def test_names(self) -> None:
-        """A name that a module takes from another is of one module, so it means one thing."""
+        """A name that a module takes from another is of one module, and a class has its name alone, so it means one thing;
+        but for `together.py`, which is one file by itself."""
         homes: dict[str, set[pathlib.Path]] = defaultdict(set)
         for _, other, name in imports():
             homes[name].add(other)
-        self.assertEqual({name for name, places in homes.items() if len(places) > 1} - TWICE, set())
+        self.assertEqual({name for name, places in homes.items() if len(places) > 1}, set())
+        files = [path for path in sorted(PACKAGE.rglob("*.py")) if path.name != "together.py"]
+        classes = Counter(name for file in files for name in re.findall(r"^class (\w+)", file.read_text(), re.M))
+        self.assertGreater(len(classes), 100)
+        self.assertEqual([name for name, count in classes.items() if count > 1], [])
 
     def test_values(self) -> None:
         """Values that stay as they are have slots, where Python makes them; they can be copied and kept."""

@@ -50,7 +50,7 @@ class Done:
 
 
 @dataclasses.dataclass(frozen=True)
-class Held:
+class Stored:
     """What a store holds: its first map, and each change since with the epoch that it made."""
 
     first: tuple[int, str]
@@ -91,12 +91,12 @@ def opened(store: pathlib.Path) -> Iterator[sqlite3.Connection]:
         yield database
 
 
-def held(store: pathlib.Path) -> Held:
+def held(store: pathlib.Path) -> Stored:
     """What a store holds, by sqlite3, which is given a copy of its files and finds them sound."""
     with tempfile.TemporaryDirectory() as folder, opened(copied(store, pathlib.Path(folder) / "copy")) as database:
         assert database.execute("pragma integrity_check").fetchall() == [("ok",)], "the database is not sound"
         (first,) = database.execute("select epoch, text from map").fetchall()
-        return Held(first, database.execute("select epoch, change from journal order by epoch").fetchall())
+        return Stored(first, database.execute("select epoch, change from journal order by epoch").fetchall())
 
 
 def settled(store: pathlib.Path) -> pathlib.Path:

@@ -132,7 +132,7 @@ class Unrest(UnrestCase):
         )
 
 
-class Held(UnrestCase):
+class HeldPools(UnrestCase):
     """What is held and let go of such pools."""
 
     def test_losing(self) -> None:

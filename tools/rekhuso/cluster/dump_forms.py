@@ -19,7 +19,7 @@ DumpForm = Dict[str, Any]
 WIDEST = 2**64
 
 
-class Part(NamedTuple):
+class UpTo(NamedTuple):
     """The form of a number from 0 to another."""
 
     most: int
@@ -77,7 +77,7 @@ OSD_DUMP = {
             "?pg_placement_num_target": Count(1, STOCK.groups),
         }
     ],
-    "osds": [{"osd": int, "up": int, "weight": float, "?state": [str], "?primary_affinity": Part(1)}],
+    "osds": [{"osd": int, "up": int, "weight": float, "?state": [str], "?primary_affinity": UpTo(1)}],
     "?fsid": str,
     "?crush_version": int,
     "?pg_upmap": [dict(GROUP_KEYS, osds=[int])],
@@ -215,7 +215,7 @@ def misfits(value: object, shape: object, place: str) -> list[str]:
         if "op" in shape and not found:
             found += [f"{place}.{name}: missing" for name in STEP_KEYS.get(value["op"], ()) if name not in value]
         return found
-    if isinstance(shape, (Part, Count, Written)):
+    if isinstance(shape, (UpTo, Count, Written)):
         told = shape.fault(value)
         return [f"{place}: {told}"] if told else []
     kind = cast(type, shape)

@@ -32,7 +32,7 @@ from ..output.json_output import put_json
 from ..output.next_words import next_lines
 from ..plans.carried import parts_of_plan
 from ..plans.guards import NO_GUARDS, guards_of
-from ..plans.next_step import NextStep, NextWish, Progress, next_step
+from ..plans.next_step import Amount, NextStep, NextWish, next_step
 from ..plans.question import sets_of_maps
 from ..values import SLOTS
 from .arguments import MORE, Arguments, Commands, add_dump_options, add_guard, add_json, reading, set_work, source_of
@@ -92,7 +92,7 @@ def states_of(options: NextOptions, cluster: Cluster) -> dict[str, GroupState]:
     return states_by_temps(cluster, sets_of_maps(view_of_cluster(cluster).maps, options.source.program))
 
 
-def progress_parts(own: Progress) -> dict[str, int | None]:
+def progress_parts(own: Amount) -> dict[str, int | None]:
     """What is still to come of some groups as JSON."""
     return {"groups": own.groups, "places": own.places, "bytes": own.size}
 

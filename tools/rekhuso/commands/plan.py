@@ -101,7 +101,7 @@ class ToldPlan:
 
 
 @dataclass(frozen=True, **SLOTS)
-class Held:
+class Holdings:
     """What a cluster holds: what files tell, and of it the data of its pools; the weights of all its OSDs; which OSDs
     it has, None where not all are known; how full one may get; the tree in which they stand; and the OSDs of the device
     classes on which pools lie that are planned, None where these are all.
@@ -177,7 +177,7 @@ def options_of(arguments: Arguments) -> PlanOptions:
     )
 
 
-def pools_of(options: PlanOptions, lives: list[Live], names: Names, held: Held) -> frozenset[int]:
+def pools_of(options: PlanOptions, lives: list[Live], names: Names, held: Holdings) -> frozenset[int]:
     """The pools that are planned, none where these are all. Those that are passed over, as they lie on OSDs of other
     device classes too, are told on standard error. A fault for a word that names no pool, and where none is left.
     """
@@ -194,7 +194,7 @@ def pools_of(options: PlanOptions, lives: list[Live], names: Names, held: Held) 
     return frozenset(several)
 
 
-def wish_of(options: PlanOptions, lives: list[Live], names: Names, held: Held) -> Wish:
+def wish_of(options: PlanOptions, lives: list[Live], names: Names, held: Holdings) -> Wish:
     """What is asked for. A fault for a word that names no pool, and where room is wanted and some pool is unknown."""
     most = options.most or (MOST_MOVES if options.is_alone else ALL)
     own = {number for live in lives for number in live.pools}
@@ -222,7 +222,7 @@ def printed_over(lives: list[Live], outcome: Outcome, program: Program) -> Print
     return Printed(maps, program, {step.group: step.now for step in outcome.steps}, outcome.measure, down, Asked.NAMED)
 
 
-def told_by(lives: list[Live], options: PlanOptions, names: Names, held: Held, origin: Origin) -> ToldPlan:
+def told_by(lives: list[Live], options: PlanOptions, names: Names, held: Holdings, origin: Origin) -> ToldPlan:
     """The plans over some sessions, which end with them. A fault where a pool that is named gets none."""
     check_outage(outage_in(lives), options.is_anyway)
     pools = [pool for live in lives for pool in live.pools.values()]
@@ -255,7 +255,7 @@ def plan_of_map(options: PlanOptions, known: KnownData) -> ToldPlan:
             raise Fault(no_plan_words(""))
         data = known.of_cluster(value["pools"], names.get("pools", {}), False, {})
         weights = {item: own for bucket in tree or value["buckets"] for item, own in bucket["items"] if item >= 0}
-        held = Held(
+        held = Holdings(
             known,
             data,
             list(weights.values()),
@@ -291,7 +291,7 @@ def plan_of_dumps(options: PlanOptions, known: KnownData) -> ToldPlan:
     cluster, pools = found.cluster, [pool for value in found.maps for pool in value["pools"]]
     data = known.of_cluster(pools, names["pools"], source.pools is None, cluster.erasure_rates)
     weights, osds = list(cluster.osd_weights().values()), frozenset(cluster.osds)
-    held = Held(known, data, weights, osds, cluster.nearfull, whole.tree, chosen_in(options, names))
+    held = Holdings(known, data, weights, osds, cluster.nearfull, whole.tree, chosen_in(options, names))
     with ExitStack() as stack:
         lives = [
             Live(

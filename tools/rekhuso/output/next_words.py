@@ -2,11 +2,11 @@
 
 from __future__ import annotations
 
-from ..plans.next_step import DONE, NextStep, OUT, Progress
+from ..plans.next_step import DONE, OUT, Amount, NextStep
 from ..words import counted, size_words
 
 
-def progress_words(own: Progress) -> str:
+def progress_words(own: Amount) -> str:
     """What is still to come of some groups."""
     words = f"{counted(own.groups, 'group')} and {counted(own.places, 'place')}"
     return words if not own.size else f"{words}, some {size_words(own.size)}"

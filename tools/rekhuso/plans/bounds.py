@@ -47,7 +47,7 @@ def is_above(size: float, most: float) -> bool:
     return size > most * (1 + ROUNDING) + ROUNDING
 
 
-class Fullness:
+class Filling:
     """What OSDs have while the steps of a plan are taken, part by part."""
 
     def __init__(self, measure: Measure, has: Mapping[int, float]) -> None:

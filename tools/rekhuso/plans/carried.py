@@ -40,7 +40,7 @@ FILES, COMMANDS = re.compile(r"(plan|hold|prepare|release|drain)-([0-9]+|end)\.s
 
 
 @dataclass(frozen=True, **SLOTS)
-class Part:
+class PlanPart:
     """A part of a plan: its name, its text, its commands on exceptions, the weights that it gives OSDs, those that it
     takes out, and whether it is a stage.
     """
@@ -63,7 +63,7 @@ class Part:
         return found
 
 
-def part_in(name: str, text: str) -> Part:
+def part_in(name: str, text: str) -> PlanPart:
     """The part that a script is. A fault for a line that is of no script of these tools, and for a change that is still
     to come.
     """
@@ -85,7 +85,7 @@ def part_in(name: str, text: str) -> Part:
             if not FORM.fullmatch(line):
                 raise Fault(f"{name}: {line}: no line of a script of these tools")
             commands.append(command_in(line))
-    return Part(name, text, commands, weights, out, is_stage)
+    return PlanPart(name, text, commands, weights, out, is_stage)
 
 
 def script_text(lines: Sequence[str], is_stage: bool) -> str:
@@ -94,7 +94,7 @@ def script_text(lines: Sequence[str], is_stage: bool) -> str:
     return "\n".join(["set -e", *around]) + "\n"
 
 
-def parts_in_json(path: str) -> list[Part]:
+def parts_in_json(path: str) -> list[PlanPart]:
     """The parts of a plan that a command has told as JSON. A fault where it is none."""
     value = json_of(path, "command")
     command = value["command"]
@@ -116,7 +116,7 @@ def parts_in_json(path: str) -> list[Part]:
     return [part_in(f"{path}, part {at}", text) for at, text in enumerate(texts)]
 
 
-def parts_in_folder(path: pathlib.Path) -> list[Part]:
+def parts_in_folder(path: pathlib.Path) -> list[PlanPart]:
     """The parts of a plan in a folder of scripts; those that take one back are passed over. A fault where there is no
     script, where there are those of several plans, and where one is missing between others.
     """
@@ -133,7 +133,7 @@ def parts_in_folder(path: pathlib.Path) -> list[Part]:
     return [part_in(name, text_of(str(path / name))) for name in names]
 
 
-def parts_of_plan(path: str) -> list[Part]:
+def parts_of_plan(path: str) -> list[PlanPart]:
     """The parts of a plan: of a folder of scripts, of JSON, or of one script."""
     place = pathlib.Path(path)
     if place.is_dir():
@@ -144,7 +144,7 @@ def parts_of_plan(path: str) -> list[Part]:
 class Settings:
     """What a cluster has of all that a plan gives."""
 
-    def __init__(self, cluster: Cluster, parts: Sequence[Part]) -> None:
+    def __init__(self, cluster: Cluster, parts: Sequence[PlanPart]) -> None:
         """Takes the cluster as it is now, and the plan."""
         dump = cluster.osd_dump
         self.now: dict[Key, object] = {("weight", osd): own for osd, own in weights_in(cluster).items()}
@@ -169,12 +169,12 @@ class Settings:
         return all(self.has(at, key) for key in keys)
 
 
-def groups_in_parts(parts: Sequence[Part]) -> list[list[str]]:
+def groups_in_parts(parts: Sequence[PlanPart]) -> list[list[str]]:
     """The groups of each part, in their order."""
     return [list(dict.fromkeys(command.group for command in part.commands)) for part in parts]
 
 
-def commands_by_group(part: Part) -> Mapping[str, list[PrintedCommand]]:
+def commands_by_group(part: PlanPart) -> Mapping[str, list[PrintedCommand]]:
     """The commands of each group of a part."""
     found: dict[str, list[PrintedCommand]] = {}
     for command in part.commands:

@@ -14,12 +14,11 @@ from ..program.answers import ups_of
 from ..program.maps import Map, Program, entries_of, group_key, groups_of, with_all_up, written
 from ..program.session import Session
 from ..values import SLOTS
-from .bounds import Fullness, Measure, Step
+from .bounds import Filling, Measure, Step
 from .printed_commands import PrintedCommand, defect
 
-# The places of a set, and those of many groups.
-Places = list["int | None"]
-Sets = dict[str, Places]
+# The places of the sets of many groups.
+Sets = dict[str, "list[int | None]"]
 # How many changes one session is given at most: fewer than its journal has room for.
 MOST_CHANGES = 65_000
 
@@ -28,7 +27,7 @@ MOST_CHANGES = 65_000
 class Given:
     """A command that the program has accepted: the set of its group then, and the counts of the OSDs that it names."""
 
-    places: Places
+    places: list[int | None]
     counts: dict[int, int]
 
 
@@ -149,7 +148,7 @@ class Play:
 
     def play(self, parts: Sequence[Sequence[PrintedCommand]], measure: Measure | None) -> None:
         """Takes all parts. A fault where an OSD passes the bounds of a part, if there are any."""
-        fullness = None if measure is None else Fullness(measure, self.has(measure))
+        fullness = None if measure is None else Filling(measure, self.has(measure))
         for part in parts:
             groups = groupby(part, key=lambda own: own.group)
             steps = [self.step(group, commands, measure) for group, commands in groups]

@@ -236,7 +236,7 @@ def undo_of(
 
 
 @dataclass(frozen=True, **SLOTS)
-class Course:
+class DrainCourse:
     """A cluster on the way: as it is held once the OSDs have next to no weight, with the groups that then lie on them;
     where these go, and why others wait; and the end.
     """
@@ -260,7 +260,7 @@ def ended(
     return last_stage(with_exceptions(begin.cluster, led(begin.cluster, chooser, targets)), osds, program)
 
 
-def course_of(cluster: Cluster, wish: DrainWish, program: Program) -> Course:
+def course_of(cluster: Cluster, wish: DrainWish, program: Program) -> DrainCourse:
     """The way of a cluster whose OSDs are emptied. A fault where a pool would be short."""
     begin, gone = first_stage(cluster, wish.osds, program), frozenset(wish.osds)
     sets: dict[str, Places] = {own.group: own.now for own in begin.hold.groups}
@@ -276,7 +276,7 @@ def course_of(cluster: Cluster, wish: DrainWish, program: Program) -> Course:
         targets = planned_targets(chooser, end.cluster, targets, program)
         end = ended(begin, chooser, targets, wish.osds, program)
     check_targets(end, targets)
-    return Course(begin, chooser, targets, waiting, end)
+    return DrainCourse(begin, chooser, targets, waiting, end)
 
 
 def drain_of(cluster: Cluster, wish: DrainWish, program: Program) -> Drain:
@@ -325,7 +325,7 @@ def drain_of(cluster: Cluster, wish: DrainWish, program: Program) -> Drain:
     )
 
 
-def lost_on_the_way(cluster: Cluster, course: Course) -> set[str]:
+def lost_on_the_way(cluster: Cluster, course: DrainCourse) -> set[str]:
     """The groups that may lose exceptions while OSDs get other weights one after the other: all that have some."""
     is_one = len(course.begin.change) < 2 and len(course.end.change) < 3
     return set(course.begin.lost | course.end.lost) if is_one else excepted_groups(exceptions_in(cluster.osd_dump))

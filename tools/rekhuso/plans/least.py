@@ -25,7 +25,7 @@ ROUNDING = 1e-9
 
 
 @dataclass(frozen=True, **SLOTS)
-class Places:
+class FittingPlaces:
     """Places that are to fit: how many, what each holds at least, and the OSDs that may have them by failure domain,
     each with how many it has at most.
     """
@@ -54,17 +54,17 @@ def least_for(fits: Callable[[float], bool]) -> float:
     return low
 
 
-def of_all(measures: Measures, wanted: Mapping[int, float]) -> Iterable[Places]:
+def of_all(measures: Measures, wanted: Mapping[int, float]) -> Iterable[FittingPlaces]:
     """The places of all pools together, those apart that no OSD may have with others."""
     trees = [tree for number, pool in measures.pools.items() for tree in measures.lives[number].before.trees_for(pool)]
     has = sums_by_osd(measures.counts)
     for osds in joined(trees):
         own = [osd for osd in osds if wanted.get(osd, 0.0) > 0]
         count = round(sum(has.get(osd, 0) for osd in own))
-        yield Places(count, 1.0, [(own, count)])
+        yield FittingPlaces(count, 1.0, [(own, count)])
 
 
-def of_pools(measures: Measures, still: Collection[int], wanted: Mapping[int, float]) -> Iterable[Places]:
+def of_pools(measures: Measures, still: Collection[int], wanted: Mapping[int, float]) -> Iterable[FittingPlaces]:
     """The places of each pool that has most data and is moved."""
     sizes = {} if measures.aims is None else measures.aims.sizes
     free = [number for number in measures.pools if number not in still and min(sizes[number], default=0) > 0]
@@ -78,7 +78,7 @@ def of_pools(measures: Measures, still: Collection[int], wanted: Mapping[int, fl
                     domains.setdefault((at, block.domains[osd]), []).append(osd)
         counts = {domain: sum(measures.counts[number].get(osd, 0) for osd in osds) for domain, osds in domains.items()}
         there = [(osds, max(pool["pg_num"], counts[domain])) for domain, osds in domains.items()]
-        yield Places(sum(counts.values()), min(sizes[number]) / BYTE_PARTS, there)
+        yield FittingPlaces(sum(counts.values()), min(sizes[number]) / BYTE_PARTS, there)
 
 
 def least_of(measures: Measures, still: Collection[int]) -> float:

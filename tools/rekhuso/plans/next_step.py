@@ -25,9 +25,9 @@ from ..faults import Fault
 from ..program.answers import Up
 from ..program.maps import Map, Program, group_key
 from ..values import SLOTS
-from .bounds import Fullness, Measure, Step
+from .bounds import Filling, Measure, Step
 from .busy import Busy, MostBusy, partakers
-from .carried import Part, Settings, commands_by_group, groups_in_parts, part_in
+from .carried import PlanPart, Settings, commands_by_group, groups_in_parts, part_in
 from .courses import Course, Play
 from .drain_stages import after_all, light_osds
 from .guards import Guards, guarded
@@ -52,7 +52,7 @@ class NextWish:
 
 
 @dataclass(frozen=True, **SLOTS)
-class Progress:
+class Amount:
     """Groups and places of a plan: so many groups, so many places that are still to come, and their bytes where these
     are known.
     """
@@ -73,8 +73,8 @@ class NextStep:
     text: str
     part: str
     done: int
-    under_way: Progress
-    left: Progress
+    under_way: Amount
+    left: Amount
     moving: int
     left_out: list[tuple[str, str]]
     by_osd: dict[int, tuple[int, int, int]]
@@ -114,11 +114,11 @@ class Now:
         count = str(profile.get("k", "1"))
         return max(int(count), 1) if count.isdigit() else 1
 
-    def progress(self, come: Mapping[str, Sequence[int]]) -> Progress:
+    def progress(self, come: Mapping[str, Sequence[int]]) -> Amount:
         """What is still to come of some groups."""
         sizes = [self.place_size(group) for group, osds in come.items() for _ in osds]
         known = None if None in sizes else sum(size for size in sizes if size is not None)
-        return Progress(len(come), len(sizes), known if sizes else 0)
+        return Amount(len(come), len(sizes), known if sizes else 0)
 
     def holding(self) -> Counter[int]:
         """How many groups each OSD has data of, where it may still have that of groups under way."""
@@ -193,7 +193,7 @@ class Choice:
             self.busy.take(partakers(now.states[group].acting, osds))
         share = now.view.shares(dict(now.ups)).reached
         self.high = dict[int, float](now.holding())
-        self.fullness = Fullness(Measure(Spread({}, share), None, end, {}), self.high)
+        self.fullness = Filling(Measure(Spread({}, share), None, end, {}), self.high)
         self.bound = max(self.fullness.fullest(self.high), self.fullness.fullest(end), EVEN)
         self.is_first = not now.moving
 
@@ -225,7 +225,7 @@ class Choice:
 class Carrying:
     """A plan and the cluster on which it is carried out."""
 
-    def __init__(self, now: Now, parts: Sequence[Part], wish: NextWish, program: Program) -> None:
+    def __init__(self, now: Now, parts: Sequence[PlanPart], wish: NextWish, program: Program) -> None:
         """Takes the cluster as it is now, the plan, and what is asked for."""
         self.now, self.parts, self.wish, self.program = now, parts, wish, program
         self.settings, self.groups = Settings(now.cluster, parts), groups_in_parts(parts)
@@ -346,7 +346,7 @@ class Carrying:
         )
 
 
-def check_cluster(cluster: Cluster, parts: Sequence[Part]) -> None:
+def check_cluster(cluster: Cluster, parts: Sequence[PlanPart]) -> None:
     """A fault where scripts say that they are of another cluster."""
     own = cluster.osd_dump.get("fsid")
     for part in parts:
@@ -356,7 +356,7 @@ def check_cluster(cluster: Cluster, parts: Sequence[Part]) -> None:
 
 
 def next_step(
-    cluster: Cluster, parts: Sequence[Part], states: Mapping[str, GroupState], wish: NextWish, program: Program
+    cluster: Cluster, parts: Sequence[PlanPart], states: Mapping[str, GroupState], wish: NextWish, program: Program
 ) -> NextStep:
     """What of a plan is to be done now. A fault where the cluster is no longer the one for which it was made."""
     check_cluster(cluster, parts)

@@ -20,7 +20,7 @@ from ..program.maps import Map, Program, group_key
 from ..progress import doing
 from ..values import SLOTS
 from .bounds import Measure
-from .courses import Course, Places, Play, excepted_in
+from .courses import Course, Play, excepted_in
 from .printed_commands import DEFECT, PrintedCommand, commands_in, defect
 
 
@@ -71,7 +71,7 @@ class Printed:
             found.append(Course(value, own, self.program))
         return found
 
-    def as_up(self, places: Sequence[int | None], is_erasure: bool) -> Places:
+    def as_up(self, places: Sequence[int | None], is_erasure: bool) -> list[int | None]:
         """What OSDs that are down leave of a set."""
         if not self.down:
             return list(places)
@@ -123,7 +123,7 @@ class Printed:
         """
         exceptions = {group: own for value in self.maps for group, own in excepted_in(value).items()}
         last = {own.group: own.line for own in commands}
-        goal: dict[str, Places] = {}
+        goal: dict[str, list[int | None]] = {}
         for maps in (self.maps, after):
             for course in self.courses(commands, maps):
                 for group, places in course.before.items():

@@ -210,7 +210,7 @@ class ByPairs(Protocol):
         """Makes at most so many moves between OSDs that differ by more than so many parts of a group."""
 
 
-class Told(NamedTuple):
+class PoolLoads(NamedTuple):
     """What is told of a pool: what OSDs carry, and how far each is above its share with that."""
 
     loads: dict[int, int]
@@ -243,12 +243,12 @@ class Planner:
         self.hopeless: set[int] = set()
         self.at_rest = AtRest(2 * half * STEP_PARTS)
 
-    def told(self, number: int) -> Told:
+    def told(self, number: int) -> PoolLoads:
         """What is told of a pool as the others lie."""
         loads = self.loads.told(number, self.half)
-        return Told(loads, self.loads.above(number, loads))
+        return PoolLoads(loads, self.loads.above(number, loads))
 
-    def may_move(self, number: int, told: Told) -> bool:
+    def may_move(self, number: int, told: PoolLoads) -> bool:
         """Whether a pool may have a move, beside what the others lay on OSDs."""
         live = self.live_of[number]
         if number in self.refusals or not (live.has_one_block(live.pools[number]) or self.goes_by_pairs(number)):
@@ -286,7 +286,7 @@ class Planner:
             self.at_rest.put(number, told.above)
         return moves
 
-    def moves(self, pool: Pool, told: Told, most: int) -> int:
+    def moves(self, pool: Pool, told: PoolLoads, most: int) -> int:
         """How many moves of a pool were made; none where the program refuses it."""
         number, live = pool["id"], self.live_of[pool["id"]]
         try:

@@ -368,7 +368,7 @@ POOLS, OSDS, GROUPS, CRUSH = "pools", "osds", "groups", "crush"
 
 
 @dataclass(frozen=True, **SLOTS)
-class Part:
+class ChangePart:
     """A part of a change: what its entries name, its form, and the part in which none of its keys may stand too."""
 
     names: str
@@ -378,17 +378,17 @@ class Part:
 
 # The parts of a change by their keys, in the order of docs/FORMATS.md. Nowhere else in the tools stand all of them.
 PARTS = {
-    "old_pools": Part(POOLS, entries(pool_id), "new_pools"),
-    "new_crush": Part(CRUSH, crush),
-    "new_pools": Part(POOLS, entries(pool), "grow_pool"),
-    "grow_pool": Part(POOLS, entries(growth)),
-    "down": Part(OSDS, entries(osd_id), "up"),
-    "up": Part(OSDS, entries(osd_id)),
-    "weight": Part(OSDS, entries(reweight)),
-    "old_upmap": Part(GROUPS, entries(lambda _: group), "new_upmap"),
-    "old_items": Part(GROUPS, entries(lambda _: group), "new_items"),
-    "new_upmap": Part(GROUPS, explicit_sets),
-    "new_items": Part(GROUPS, pairs),
+    "old_pools": ChangePart(POOLS, entries(pool_id), "new_pools"),
+    "new_crush": ChangePart(CRUSH, crush),
+    "new_pools": ChangePart(POOLS, entries(pool), "grow_pool"),
+    "grow_pool": ChangePart(POOLS, entries(growth)),
+    "down": ChangePart(OSDS, entries(osd_id), "up"),
+    "up": ChangePart(OSDS, entries(osd_id)),
+    "weight": ChangePart(OSDS, entries(reweight)),
+    "old_upmap": ChangePart(GROUPS, entries(lambda _: group), "new_upmap"),
+    "old_items": ChangePart(GROUPS, entries(lambda _: group), "new_items"),
+    "new_upmap": ChangePart(GROUPS, explicit_sets),
+    "new_items": ChangePart(GROUPS, pairs),
 }
 CHANGE_KEYS = frozenset(["base", *PARTS])
 

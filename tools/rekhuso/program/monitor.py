@@ -50,7 +50,7 @@ from ..faults import Refused, Trouble, Unopened
 from ..files import text_of
 from ..progress import doing
 from .maps import Map, Program, needs_stock, written
-from .process import Held, Patience, temporary, unblocked
+from .process import Patience, Postponed, temporary, unblocked
 from .session import Session
 from .versions import program_of
 
@@ -118,7 +118,7 @@ class Monitor(Session):
             self._folder = tempfile.TemporaryDirectory()
         self.sessions: list[Session] = []
         names = [(f"lines-{k}", f"answers-{k}") for k in range(1, sessions + 1)] if sessions > 1 else []
-        with Held() as held:
+        with Postponed() as held:
             self._process = self._started(self._words(text, journal, names), names)
             self._patience = Patience(self._process, timeout)
             try:

@@ -105,7 +105,7 @@ class Patience:
 ENDINGS = (signal.SIGINT, signal.SIGTERM, signal.SIGHUP)
 
 
-class Held:
+class Postponed:
     """Keeps Ctrl-C back while a program is being started, in a `with`, and what else ends a command: an exception then
     would leave it running with nobody who holds it. It comes once it is let go. Only the main thread has it come.
     Blocking the signal would not do: another thread would take it, and the program would be started with the signal
@@ -117,7 +117,7 @@ class Held:
         self.come: list[int] = []
         self.before: dict[int, Callable[[int, FrameType | None], object]] = {}
 
-    def __enter__(self) -> Held:
+    def __enter__(self) -> Postponed:
         """Begins to keep it back, where somebody has it come as an exception, or otherwise as a call."""
         for number in ENDINGS if threading.current_thread() is threading.main_thread() else ():
             before = signal.getsignal(number)
@@ -163,7 +163,7 @@ def told_by(words: list[str]) -> Told:
     """What a program tells that is run to its end, over no input. A fault where it does not start. What ends this
     command ends it too.
     """
-    with Held() as held:
+    with Postponed() as held:
         try:
             process = subprocess.Popen(
                 words, stdin=subprocess.DEVNULL, stdout=subprocess.PIPE, stderr=subprocess.PIPE, text=True

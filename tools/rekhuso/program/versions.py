@@ -12,7 +12,7 @@ import time
 from ..faults import Trouble
 from ..version import VERSION
 from .maps import Program
-from .process import Held, chosen
+from .process import Postponed, chosen
 
 # So many seconds may a program take to tell its version, and so many bytes of what it tells are read.
 SECONDS, LONGEST = 30, 200
@@ -38,7 +38,7 @@ def check_version(path: str, name: str) -> None:
 def version_line(path: str) -> str:
     """What a program tells as its version; nothing where it does not start. A fault where it takes too long."""
     null = subprocess.DEVNULL
-    with Held() as held:
+    with Postponed() as held:
         try:
             process = subprocess.Popen(
                 [path, "--version"], stdin=null, stdout=subprocess.PIPE, stderr=null, start_new_session=True
