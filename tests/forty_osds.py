@@ -18,6 +18,7 @@ from tests import model, soak
 from tests.cases import Case
 from tests.clusters import Json
 from tests.runs import zipped
+from tests.whole_maps import map_of, osd_of, pool_of, rule_of
 
 OSDS, HOSTS, RACKS, GROUPS, LIMIT = 40, 12, 4, 256, 1024
 DOWN, OUT, LIGHTER = [7, 20], [12], {3: 32768, 30: 49152}
@@ -46,34 +47,11 @@ def a_map() -> Json:
         [["chooseleaf_indep", 0, 1]],
     ]
     kinds = ["replicated", "replicated", "erasure"]
-    osds = [
-        {"exists": True, "id": osd, "up": osd not in DOWN, "weight": 0 if osd in OUT else LIGHTER.get(osd, 65536)}
-        for osd in range(OSDS)
-    ]
-    return {
-        "buckets": buckets,
-        "epoch": 1,
-        "max_osd": OSDS,
-        "osds": osds,
-        "pg_upmap": [],
-        "pg_upmap_items": [],
-        "version": 1,
-        "pools": [
-            {
-                "id": rule + 1,
-                "kind": kind,
-                "pg_num": GROUPS,
-                "pgp_num": GROUPS,
-                "rule": rule,
-                "size": 4 if kind == "erasure" else 3,
-            }
-            for rule, kind in enumerate(kinds)
-        ],
-        "rules": [
-            {"id": rule, "kind": kind, "steps": [["take", -1]] + steps[rule] + [["emit"]]}
-            for rule, kind in enumerate(kinds)
-        ],
-    }
+    osds = [osd_of(osd, osd not in DOWN, 0 if osd in OUT else LIGHTER.get(osd, 65536)) for osd in range(OSDS)]
+    pools = [pool_of(rule + 1, GROUPS, 4 if kind == "erasure" else 3, rule, kind) for rule, kind in enumerate(kinds)]
+    rules = [rule_of([["take", -1]] + steps[rule] + [["emit"]], rule, kind) for rule, kind in enumerate(kinds)]
+    none: dict[str, list[Json]] = {"pg_upmap": [], "pg_upmap_items": []}
+    return map_of(buckets, rules, pools, osds, **none)
 
 
 def script() -> list[str]:

@@ -9,6 +9,7 @@ from typing import Any
 from tests.cases import RowCase
 from tests.rows import MAPS, Map, written
 from tests.runs import Run
+from tests.whole_maps import ON_OSDS, map_of, osds_of, pool_of, rule_of
 
 
 def items_by(explicit: list[int], pairs: list[list[int]]) -> list[int]:
@@ -22,7 +23,6 @@ def items_by(explicit: list[int], pairs: list[list[int]]) -> list[int]:
 def greatest() -> Map:
     """A map with the most buckets, items, rules, steps, pools, groups and OSDs that there may be, and exceptions for
     every group."""
-    state = {"exists": True, "up": True, "weight": 65536}
     leaves: list[Map] = [
         {"id": -66 - h, "items": [[2 * h, 7], [2 * h + 1, 9]], "kind": "list", "type": 1} for h in range(447)
     ]
@@ -38,34 +38,20 @@ def greatest() -> Map:
     groups = [f"{pool}.{number:x}" for pool in range(65504, 65536) for number in range(4096)]
     sets = [[(7 * at + 3 * place) % 1024 for place in range(10)] for at in range(1024)]
     pairs = [[[osd, (osd + 1) % 1024] for osd in places[: 10 if at % 16 == 5 else 1]] for at, places in enumerate(sets)]
-    return {
-        "buckets": [root] + racks + leaves,
-        "epoch": 2147483648,
-        "max_osd": 1024,
-        "version": 1,
-        "osds": [dict(state, id=osd) for osd in range(1024)],
-        "pools": [
-            {
-                "id": pool,
-                "kind": "replicated",
-                "pg_num": 4096,
-                "pgp_num": 4096 - pool % 5,
-                "rule": pool % 256,
-                "size": 10,
-            }
-            for pool in range(65504, 65536)
-        ],
-        "rules": [{"id": rule, "kind": "replicated", "steps": steps} for rule in range(224, 256)],
+    pools = [pool_of(pool, 4096, 10, pool % 256, placed=4096 - pool % 5) for pool in range(65504, 65536)]
+    exceptions = {
         "pg_upmap": [[group, sets[at % 1024]] for at, group in enumerate(groups)],
         "pg_upmap_items": [[group, pairs[at % 1024]] for at, group in enumerate(groups)],
     }
+    rules = [rule_of(steps, rule) for rule in range(224, 256)]
+    return map_of([root] + racks + leaves, rules, pools, osds_of(1024), epoch=2147483648, **exceptions)
 
 
 def changed(cluster: Map) -> tuple[Map, Map]:
     """A change of every part of the greatest map, and the map after it."""
     after = dict(cluster, epoch=cluster["epoch"] + 1)
     gone = [f"65504.{number:x}" for number in range(4096)]
-    pool = {"id": 1, "kind": "replicated", "pg_num": 4096, "pgp_num": 1, "rule": 255, "size": 1}
+    pool = pool_of(1, 4096, rule=255, placed=1)
     new_sets = [[f"1.{number:x}", [number % 512 * 2]] for number in range(4096)]
     new_pairs = [[f"1.{number:x}", [[number % 512 * 2, 1]]] for number in range(4096)]
     old_sets = [f"65505.{number:x}" for number in range(4096)]
@@ -151,22 +137,13 @@ def of_one_device(pools: Iterable[int], groups: int, size: int = 1) -> Map:
 
 def crowded(count: int) -> Map:
     """So many OSDs, 64 a bucket, and 4,096 groups that an explicit set each has put on OSD 0."""
-    state, hosts = {"exists": True, "up": True, "weight": 65536}, range(count // 64)
+    hosts = range(count // 64)
     buckets: list[Map] = [{"id": -1, "items": [[-2 - h, 64 * 65536] for h in hosts], "kind": "list", "type": 2}]
     buckets += [
         {"id": -2 - h, "items": [[64 * h + i, 65536] for i in range(64)], "kind": "list", "type": 1} for h in hosts
     ]
-    return {
-        "buckets": buckets,
-        "epoch": 1,
-        "max_osd": count,
-        "osds": [dict(state, id=osd) for osd in range(count)],
-        "pg_upmap": [[f"1.{number:x}", [0]] for number in range(4096)],
-        "pg_upmap_items": [],
-        "pools": [{"id": 1, "kind": "replicated", "pg_num": 4096, "pgp_num": 4096, "rule": 0, "size": 1}],
-        "rules": [{"id": 0, "kind": "replicated", "steps": [["take", -1], ["choose_firstn", 0, 0], ["emit"]]}],
-        "version": 1,
-    }
+    sets: dict[str, list[Any]] = {"pg_upmap": [[f"1.{at:x}", [0]] for at in range(4096)], "pg_upmap_items": []}
+    return map_of(buckets, [rule_of(ON_OSDS)], [pool_of(1, 4096)], osds_of(count), **sets)
 
 
 def longest_answers() -> Iterator[Run]:

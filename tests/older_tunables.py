@@ -20,6 +20,7 @@ from typing import Any
 from tests import model
 from tests.clusters import STOCK, Json, copied
 from tests.tool_cases import StockCase
+from tests.whole_maps import map_of, osd_of, pool_of, rule_of
 
 SEED = 20261129
 # So many maps of each profile: 64 where LONG is set, which takes minutes.
@@ -121,23 +122,11 @@ def random_map(rng: random.Random) -> Json:
     racks = [bucket["id"] for bucket in buckets if bucket["type"] == 3]
     osds = sum(1 for bucket in buckets for item, _ in bucket["items"] if item >= 0)
     ways = [("replicated", "firstn"), ("erasure", "indep"), ("replicated", "firstn")]
-    rules = [{"kind": kind, "steps": steps} for kind, way in ways for steps in random_rules(rng, way, racks)]
-    shape = {"pg_num": GROUPS, "pgp_num": GROUPS}
-    return {
-        "buckets": buckets,
-        "epoch": 1,
-        "max_osd": osds,
-        "osds": [
-            {"exists": True, "id": osd, "up": True, "weight": rng.choice([65536, 65536, 65536, 32768, 8192, 0])}
-            for osd in range(osds)
-        ],
-        "pools": [
-            {"id": at + 1, "kind": rule["kind"], "rule": at, "size": rng.choice(SIZES), **shape}
-            for at, rule in enumerate(rules)
-        ],
-        "rules": [{"id": at, **rule} for at, rule in enumerate(rules)],
-        "version": 2,
-    }
+    own = [(kind, steps) for kind, way in ways for steps in random_rules(rng, way, racks)]
+    rules = [rule_of(steps, at, kind) for at, (kind, steps) in enumerate(own)]
+    states = [osd_of(osd, weight=rng.choice([65536, 65536, 65536, 32768, 8192, 0])) for osd in range(osds)]
+    pools = [pool_of(at + 1, GROUPS, rng.choice(SIZES), at, kind) for at, (kind, _) in enumerate(own)]
+    return map_of(buckets, rules, pools, states, version=2)
 
 
 def crush_text(value: Json, tunables: dict[str, int]) -> str:

@@ -22,6 +22,7 @@ from tests.cases import RowCase
 from tests.clusters import Json
 from tests.rows import MAPS, with_values, written
 from tests.runs import Check, Run, zipped
+from tests.whole_maps import map_of, osd_of, osds_of, pool_of
 
 # The pools of a map by their numbers.
 Pools = dict[int, Json]
@@ -81,33 +82,16 @@ def random_rules(rng: random.Random, hosts: list[int], kinds: tuple[str, ...]) -
 def random_pool(rng: random.Random, number: int) -> Json:
     rule = rng.randrange(len(KIND_OF))
     groups = rng.randint(1, 12)
-    return {
-        "id": number,
-        "kind": KIND_OF[rule],
-        "pg_num": groups,
-        "pgp_num": rng.randint(1, groups),
-        "rule": rule,
-        "size": rng.randint(1, 4),
-    }
+    placed, size = rng.randint(1, groups), rng.randint(1, 4)
+    return pool_of(number, groups, size, rule, KIND_OF[rule], placed)
 
 
 def random_map(rng: random.Random, kinds: tuple[str, ...]) -> Json:
     osds = rng.randint(4, 12)
     buckets, rules = random_forest(rng, osds, kinds)
     pools = [random_pool(rng, number) for number in rng.sample(range(1, 9), rng.randint(1, 3))]
-    states = [
-        {"exists": True, "id": osd, "up": rng.random() < 0.8, "weight": rng.choice([65536, 65536, 32768, 0])}
-        for osd in range(osds)
-    ]
-    return {
-        "buckets": buckets,
-        "epoch": 1,
-        "max_osd": osds,
-        "osds": states,
-        "pools": sorted(pools, key=lambda pool: int(pool["id"])),
-        "rules": rules,
-        "version": 2,
-    }
+    states = [osd_of(osd, rng.random() < 0.8, rng.choice([65536, 65536, 32768, 0])) for osd in range(osds)]
+    return map_of(buckets, rules, sorted(pools, key=lambda pool: int(pool["id"])), states, version=2)
 
 
 def some(rng: random.Random, values: Iterable[Any], most: int) -> list[Any]:
@@ -239,7 +223,7 @@ def histories(way: str, kinds: tuple[str, ...]) -> Iterator[Check]:
 def idle_changes(count: int) -> Run:
     """So many changes that evaluate nothing, over as many groups as a pool may have: each gives an OSD that no rule
     reaches another reweight. A table that were built anew for each would take past the limit."""
-    osds = [{"exists": True, "id": osd, "up": True, "weight": 65536} for osd in range(11)]
+    osds = osds_of(11)
     pool = {"pools/0/pg_num": 65536, "pools/0/pgp_num": 65536, "pools/0/size": 10}
     items = {"buckets/0/items": [[osd, 65536] for osd in range(10)], "max_osd": 11, "osds": osds}
     lines, answers = [], ["session 1"]

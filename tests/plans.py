@@ -12,12 +12,13 @@ from __future__ import annotations
 import json
 import random
 from collections.abc import Iterator
-from typing import Optional
+from typing import Any, Optional
 
 from tests.cases import RowCase
 from tests.clusters import Json
 from tests.rows import written
 from tests.runs import Run
+from tests.whole_maps import map_of, osd_of, pool_of, rule_of
 
 # A map, the hosts of its OSDs, the racks of its hosts, and the weights of its OSDs.
 RandomMap = tuple[Json, dict[int, int], Optional[dict[int, int]], dict[int, int]]
@@ -37,16 +38,8 @@ def random_map(rng: random.Random) -> RandomMap:
             osd = len(osds)
             host_of[osd] = host
             weight_of[osd] = 65536 * rng.choice([1, 1, 2])
-            osds.append(
-                {
-                    "exists": True,
-                    "id": osd,
-                    "up": rng.random() < 0.85,
-                    "weight": rng.choice([65536, 65536, 65536, 32768]),
-                }
-            )
-    spare = len(osds)
-    osds.append({"exists": True, "id": spare, "up": True, "weight": 65536})
+            osds.append(osd_of(osd, rng.random() < 0.85, rng.choice([65536, 65536, 65536, 32768])))
+    osds.append(osd_of(len(osds)))
     racked = rng.random() < 0.4
     rack_of = {host: host % 2 if racked else 0 for host in range(hosts)}
     for host in range(hosts):
@@ -67,17 +60,9 @@ def random_map(rng: random.Random) -> RandomMap:
         chosen = rng.sample(range(hosts), size)
         osds_of = [rng.choice([osd for osd in host_of if host_of[osd] == host]) for host in chosen]
         sets.append([f"1.{group:x}", osds_of])
-    value = {
-        "buckets": sorted(buckets, key=lambda bucket: -int(bucket["id"])),
-        "epoch": 1,
-        "max_osd": len(osds),
-        "osds": osds,
-        "pg_upmap": sets,
-        "pg_upmap_items": [],
-        "pools": [{"id": 1, "kind": "replicated", "pg_num": groups, "pgp_num": groups, "rule": 0, "size": size}],
-        "rules": [{"id": 0, "kind": "replicated", "steps": steps}],
-        "version": 1,
-    }
+    exceptions: dict[str, list[Any]] = {"pg_upmap": sets, "pg_upmap_items": []}
+    made = sorted(buckets, key=lambda bucket: -int(bucket["id"]))
+    value = map_of(made, [rule_of(steps)], [pool_of(1, groups, size)], osds, **exceptions)
     return value, host_of, rack_of if racked else None, weight_of
 
 

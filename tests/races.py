@@ -20,6 +20,7 @@ from tests import soak
 from tests.cases import Case
 from tests.clusters import Json
 from tests.runs import zipped
+from tests.whole_maps import ON_OSDS, map_of, osds_of, pool_of, rule_of
 
 # The order of the writers, what they answered, and each question's answer at each epoch.
 Order = tuple[tuple[int, int], list[str], dict[int, dict[str, str]]]
@@ -31,16 +32,8 @@ DOWN = ([3], [7])
 
 def a_map() -> Json:
     """Sixteen OSDs in a list, and a pool of three."""
-    osds = [{"exists": True, "id": osd, "up": True, "weight": 65536} for osd in range(OSDS)]
-    return {
-        "buckets": [{"id": -1, "items": [[osd, 65536] for osd in range(OSDS)], "kind": "list", "type": 1}],
-        "epoch": FIRST,
-        "max_osd": OSDS,
-        "osds": osds,
-        "pools": [{"id": 1, "kind": "replicated", "pg_num": GROUPS, "pgp_num": GROUPS, "rule": 0, "size": 3}],
-        "rules": [{"id": 0, "kind": "replicated", "steps": [["take", -1], ["choose_firstn", 0, 0], ["emit"]]}],
-        "version": 1,
-    }
+    root = {"id": -1, "items": [[osd, 65536] for osd in range(OSDS)], "kind": "list", "type": 1}
+    return map_of([root], [rule_of(ON_OSDS)], [pool_of(1, GROUPS, 3)], osds_of(OSDS), epoch=FIRST)
 
 
 def change(base: int, osds: list[int]) -> str:

@@ -17,6 +17,7 @@ from tests.cases import TOP
 from tests.clusters import Json, commands, places, with_commands
 from tests.reaches import reach_of
 from tests.tool_cases import ToolCase
+from tests.whole_maps import map_of, osds_of, pool_of, rule_of
 
 CEPH = TOP / "examples" / "ceph"
 # The disks that are small, and what they may weigh; the groups of both pools and of the pool that is planned.
@@ -53,17 +54,8 @@ def tree_of(rng: random.Random) -> Json:
         buckets.append({"id": -2 - rack, "items": hosts, "kind": "straw2", "type": 3})
         buckets[0]["items"].append([-2 - rack, sum(weight for _, weight in hosts)])
     steps = [["take", -1], ["chooseleaf_firstn", 0, rng.choice((1, 3))], ["emit"]]
-    return {
-        "version": 2,
-        "epoch": 1,
-        "max_osd": count,
-        "buckets": buckets,
-        "rules": [{"id": 0, "kind": "replicated", "steps": steps}],
-        "pools": [{"id": 1, "kind": "replicated", "pg_num": TREE_GROUPS, "pgp_num": TREE_GROUPS, "rule": 0, "size": 3}],
-        "osds": [{"exists": True, "id": osd, "up": True, "weight": 65536} for osd in range(count)],
-        "pg_upmap": [],
-        "pg_upmap_items": [],
-    }
+    none: dict[str, list[Json]] = {"pg_upmap": [], "pg_upmap_items": []}
+    return map_of(buckets, [rule_of(steps)], [pool_of(1, TREE_GROUPS, 3)], osds_of(count), version=2, **none)
 
 
 class Reach(ToolCase):

@@ -22,12 +22,13 @@ import subprocess
 import tempfile
 from collections.abc import Callable, Iterator
 from concurrent.futures import ThreadPoolExecutor
-from typing import Any, Protocol
+from typing import Protocol
 
 from tests import model
 from tests.cases import EXAMPLES, HERE, Case
 from tests.clusters import Json
 from tests.runs import AT_ONCE
+from tests.whole_maps import ON_HOSTS, ON_OSDS, map_of, osds_of, pool_of, rule_of
 
 WAYS = ("a script", "lines twice", "typed", "to a file")
 REFUSED = b"err 30 Memory\n"
@@ -140,10 +141,7 @@ def straw2_forest(weights: list[int]) -> Json:
     root = [[-2 - host, sum(weight for _, weight in items)] for host, items in enumerate(hosts)]
     buckets = [{"id": -1, "items": root, "kind": "straw2", "type": 10}]
     buckets += [{"id": -2 - host, "items": items, "kind": "straw2", "type": 1} for host, items in enumerate(hosts)]
-    return {
-        "buckets": buckets,
-        "rules": [{"id": 0, "kind": "replicated", "steps": [["take", -1], ["chooseleaf_firstn", 0, 1], ["emit"]]}],
-    }
+    return {"buckets": buckets, "rules": [rule_of(ON_HOSTS)]}
 
 
 class Stock(Example):
@@ -152,16 +150,9 @@ class Stock(Example):
     OPTIONS = ("--stock",)
 
     def __init__(self, command: pathlib.Path, library: pathlib.Path, folder: pathlib.Path, way: str) -> None:
-        stated = {
-            **straw2_forest([65536, 65536, 131072, 131072, 65536, 262144]),
-            "version": 1,
-            "epoch": 1,
-            "max_osd": 6,
-            "pg_upmap": [],
-            "pg_upmap_items": [],
-            "osds": [{"exists": True, "id": osd, "up": True, "weight": 65536} for osd in range(6)],
-            "pools": [{"id": 1, "kind": "replicated", "pg_num": 8, "pgp_num": 8, "rule": 0, "size": 2}],
-        }
+        none: dict[str, list[Json]] = {"pg_upmap": [], "pg_upmap_items": []}
+        forest = straw2_forest([65536, 65536, 131072, 131072, 65536, 262144])
+        stated = map_of(forest["buckets"], forest["rules"], [pool_of(1, 8, 2)], osds_of(6), **none)
         brought = {
             "base": 1,
             "new_crush": straw2_forest([1, 65536, 65537, 65536, 70000, 65536]),
@@ -214,23 +205,9 @@ class Everywhere(Written):
     POOLS, GROUPS = range(1, 33), range(4096)
 
     def stated(self) -> tuple[Json, list[tuple[str, str]]]:
-        pool: Json = {
-            "kind": "replicated",
-            "pg_num": len(self.GROUPS),
-            "pgp_num": len(self.GROUPS),
-            "rule": 0,
-            "size": 1,
-        }
-        steps = [["take", -1], ["choose_firstn", 0, 0], ["emit"]]
-        stated: dict[str, Any] = {
-            "version": 1,
-            "epoch": 1,
-            "max_osd": 1,
-            "buckets": [{"id": -1, "type": 10, "kind": "uniform", "items": [[0, 65536]]}],
-            "rules": [{"id": 0, "kind": "replicated", "steps": steps}],
-            "pools": [{"id": number, **pool} for number in self.POOLS],
-            "osds": [{"id": 0, "exists": True, "up": True, "weight": 65536}],
-        }
+        root = {"id": -1, "type": 10, "kind": "uniform", "items": [[0, 65536]]}
+        pools = [pool_of(number, len(self.GROUPS)) for number in self.POOLS]
+        stated = map_of([root], [rule_of(ON_OSDS)], pools, osds_of(1))
         groups = ",".join(f"{number}.{group:x}" for number in self.POOLS for group in self.GROUPS)
         return stated, [("groups 0", f"groups 1 0 [{groups}]")]
 
@@ -261,9 +238,8 @@ class Grown(Written):
         return {"buckets": buckets, "rules": [{"id": 0, "kind": "replicated", "steps": steps}]}
 
     def stated(self) -> tuple[Json, list[tuple[str, str]]]:
-        pool = {"id": 1, "kind": "replicated", "pg_num": 1, "pgp_num": 1, "rule": 0, "size": 1}
-        osds = [{"exists": True, "id": osd, "up": True, "weight": 65536} for osd in range(self.OSDS)]
-        stated = {**self.forest(1), "version": 1, "epoch": 1, "max_osd": self.OSDS, "osds": osds, "pools": [pool]}
+        first = self.forest(1)
+        stated = map_of(first["buckets"], first["rules"], [pool_of(1, 1)], osds_of(self.OSDS))
         last, end = self.OSDS - 1, f"{self.GROUPS - 1:x}"
         change = {
             "base": 1,
@@ -285,16 +261,9 @@ class Grown(Written):
 def two_blocks() -> Json:
     """Two OSDs, a pool that can be balanced, and one that cannot, since its rule takes twice."""
     steps = [["take", -1], ["choose_firstn", 1, 0], ["emit"]]
-    pool = {"kind": "replicated", "pg_num": 2, "pgp_num": 2, "size": 2}
-    return {
-        "buckets": [{"id": -1, "items": [[0, 65536], [1, 65536]], "kind": "list", "type": 10}],
-        "epoch": 1,
-        "max_osd": 2,
-        "version": 1,
-        "osds": [{"exists": True, "id": osd, "up": True, "weight": 65536} for osd in range(2)],
-        "pools": [{"id": number, "rule": number, **pool} for number in (1, 2)],
-        "rules": [{"id": number, "kind": "replicated", "steps": steps * number} for number in (1, 2)],
-    }
+    root = {"id": -1, "items": [[0, 65536], [1, 65536]], "kind": "list", "type": 10}
+    rules = [rule_of(steps * number, number) for number in (1, 2)]
+    return map_of([root], rules, [pool_of(number, 2, 2, number) for number in (1, 2)], osds_of(2))
 
 
 class Refused(Written):

@@ -12,6 +12,7 @@ import tempfile
 
 from tests.cases import Case
 from tests.rows import Map
+from tests.whole_maps import ON_HOSTS, map_of, osds_of, pool_of, rule_of
 
 # The seconds that a run under valgrind may take.
 LIMIT = 300
@@ -27,17 +28,8 @@ def cluster(osds: int, pools: int, groups: int = 16) -> Map:
         {"id": -2 - host, "kind": "straw2", "type": 1, "items": [[4 * host + osd, 65536] for osd in range(4)]}
         for host in hosts
     ]
-    steps = [["take", -1], ["chooseleaf_firstn", 0, 1], ["emit"]]
-    pool = {"kind": "replicated", "pg_num": groups, "pgp_num": groups, "rule": 0, "size": 3}
-    return {
-        "version": 2,
-        "epoch": 1,
-        "max_osd": osds,
-        "osds": [{"id": osd, "exists": True, "up": True, "weight": 65536} for osd in range(osds)],
-        "buckets": [root, *below],
-        "rules": [{"id": 0, "kind": "replicated", "steps": steps}],
-        "pools": [{"id": 1 + number, **pool} for number in range(pools)],
-    }
+    own = [pool_of(1 + number, groups, 3) for number in range(pools)]
+    return map_of([root, *below], [rule_of(ON_HOSTS)], own, osds_of(osds), version=2)
 
 
 class Sizes(Case):

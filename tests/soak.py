@@ -20,6 +20,7 @@ from typing import Union
 
 from tests.cases import Case
 from tests.clusters import Json
+from tests.whole_maps import map_of, osds_of, pool_of
 
 # A line that one session is asked, and the place of what is to be compared, or what was answered.
 Line = tuple[str, Union[int, str]]
@@ -40,14 +41,7 @@ SPAN = re.compile(
 
 def pool(number: int, groups: int) -> Json:
     kind, size = ("erasure", 4) if number % 4 == 3 else ("replicated", 3)
-    return {
-        "id": number,
-        "kind": kind,
-        "pg_num": groups,
-        "pgp_num": groups,
-        "rule": int(kind == "erasure"),
-        "size": size,
-    }
+    return pool_of(number, groups, size, int(kind == "erasure"), kind)
 
 
 def forest(kinds: tuple[str, ...]) -> Json:
@@ -67,15 +61,9 @@ def forest(kinds: tuple[str, ...]) -> Json:
 
 def a_map(pools: int, groups: int, kinds: tuple[str, ...] = KINDS) -> Json:
     """OSDs in hosts under one root, and pools of copies and of coded parts."""
-    osds = [{"exists": True, "id": osd, "up": True, "weight": 65536} for osd in range(OSDS)]
-    return {
-        **forest(kinds),
-        "epoch": FIRST,
-        "max_osd": OSDS + 1,
-        "osds": osds,
-        "version": 1,
-        "pools": [pool(number, groups) for number in range(1, pools + 1)],
-    }
+    own, room = [pool(number, groups) for number in range(1, pools + 1)], OSDS + 1
+    made = forest(kinds)
+    return map_of(made["buckets"], made["rules"], own, osds_of(OSDS), epoch=FIRST, max_osd=room)
 
 
 class Writer:

@@ -9,6 +9,7 @@ from typing import Any
 
 from tests.clusters import STOCK, Json, bucket_of, copied
 from tests.stock_dumps import DumpCase
+from tests.whole_maps import ON_OSDS, map_of, osds_of, pool_of, rule_of
 
 
 def straws(items: Iterable[int], number: int = -1, kind: str = "straw2", level: int = 15) -> Json:
@@ -25,18 +26,9 @@ def chains(count: int, width: int, kind: str = "straw2") -> list[Json]:
 
 def limits_map(groups: list[int], buckets: list[Json] | None = None, devices: int = 1, **more: Any) -> Json:
     """A map of version 1 with a pool of one copy for each number of groups, all of its devices up and in."""
-    steps = [["take", -1], ["choose_firstn", 0, 0], ["emit"]]
     pools = [new_pool(at, count) for at, count in enumerate(groups, 1)]
-    osds = [{"exists": True, "id": osd, "up": True, "weight": 65536} for osd in range(devices)]
-    return {
-        "buckets": buckets or [straws(range(devices))],
-        "epoch": 1,
-        "max_osd": devices,
-        "osds": osds,
-        "pools": pools,
-        "rules": [{"id": 0, "kind": "replicated", "steps": steps}],
-        "version": 1,
-    } | more
+    rules = [rule_of(ON_OSDS)]
+    return map_of(buckets or [straws(range(devices))], rules, pools, osds_of(devices)) | more
 
 
 def same_rules(count: int) -> list[Json]:
@@ -46,7 +38,7 @@ def same_rules(count: int) -> list[Json]:
 
 def new_pool(number: int, groups: int, **more: Any) -> Json:
     """A pool of one copy."""
-    return {"id": number, "kind": "replicated", "pg_num": groups, "pgp_num": groups, "rule": 0, "size": 1} | more
+    return pool_of(number, groups) | more
 
 
 def groups_of(pools: int, count: int) -> list[str]:

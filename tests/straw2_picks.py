@@ -17,6 +17,7 @@ from tests.cases import RowCase
 from tests.clusters import Json
 from tests.rows import written
 from tests.runs import Run
+from tests.whole_maps import map_of, osd_of, pool_of, rule_of
 
 # Of each pool the items of its bucket, with their weights.
 Items = dict[int, list[list[int]]]
@@ -81,25 +82,11 @@ def cases(is_more: bool) -> Items:
 
 def a_map(buckets: Items) -> Json:
     """The map of some pools by their buckets, which have one item after another of the remainders of the pools."""
-    rules = [
-        {"id": rule, "kind": "replicated", "steps": [["take", -1 - rule], ["choose_firstn", 0, 0], ["emit"]]}
-        for rule in range(len(buckets))
-    ]
+    rules = [rule_of([["take", -1 - rule], ["choose_firstn", 0, 0], ["emit"]], rule) for rule in range(len(buckets))]
     items = sorted(item for own in buckets.values() for item, _ in own)
-    return {
-        "buckets": [
-            {"id": -1 - rule, "items": own, "kind": "straw2", "type": 1} for rule, own in enumerate(buckets.values())
-        ],
-        "epoch": 1,
-        "max_osd": ITEMS,
-        "osds": [{"exists": True, "id": item, "up": True, "weight": 65536} for item in items],
-        "pools": [
-            {"id": pool, "kind": "replicated", "pg_num": 1, "pgp_num": 1, "rule": rule, "size": 1}
-            for rule, pool in enumerate(buckets)
-        ],
-        "rules": rules,
-        "version": 1,
-    }
+    made = [{"id": -1 - rule, "items": own, "kind": "straw2", "type": 1} for rule, own in enumerate(buckets.values())]
+    pools = [pool_of(pool, 1, rule=rule) for rule, pool in enumerate(buckets)]
+    return map_of(made, rules, pools, [osd_of(item) for item in items], max_osd=ITEMS)
 
 
 def maps(is_more: bool) -> list[Json]:

@@ -13,6 +13,7 @@ from typing import Any, Optional
 from tests.cases import Case, RowCase
 from tests.clusters import Json
 from tests.runs import Check, zipped
+from tests.whole_maps import ON_OSDS, map_of, osd_of, osds_of, pool_of, rule_of
 
 SECONDS = 120
 GROUPS, TOTAL, ENTRIES, ITEMS, BUCKETS, POOLS, RULES = 65_536, 1_048_576, 1_048_576, 4_096, 4_096, 256, 256
@@ -22,34 +23,17 @@ PLAIN_POOLS, PLAIN_RULES, PLAIN_OSDS, PLAIN_SIZE = 32, 32, 1_024, 10
 # How many OSDs the greatest forest has below chains of buckets, and how many pools have all groups that there may be.
 CHAINS = 1_024
 FULL_POOLS = TOTAL // GROUPS
-FULL = 65_536
 
 
 def pool(number: int, groups: int, placed: int | None = None) -> Json:
     """A pool of one copy."""
-    return {
-        "id": number,
-        "kind": "replicated",
-        "pg_num": groups,
-        "pgp_num": groups if placed is None else placed,
-        "rule": 0,
-        "size": 1,
-    }
+    return pool_of(number, groups, placed=placed)
 
 
 def a_map(pools: list[Json], buckets: list[Json] | None = None, devices: int = 1, **more: Any) -> Json:
     """A map of so many devices, all of them up and in."""
-    osds = [{"exists": True, "id": osd, "up": True, "weight": FULL} for osd in range(devices)]
-    steps = [["take", -1], ["choose_firstn", 0, 0], ["emit"]]
-    return {
-        "buckets": buckets or [bucket(-1, range(devices), "list")],
-        "epoch": 1,
-        "max_osd": devices,
-        "osds": osds,
-        "pools": pools,
-        "rules": [{"id": 0, "kind": "replicated", "steps": steps}],
-        "version": 1,
-    } | more
+    made = buckets or [bucket(-1, range(devices), "list")]
+    return map_of(made, [rule_of(ON_OSDS)], pools, osds_of(devices)) | more
 
 
 def pools_of(numbers: Iterable[int]) -> list[Json]:
@@ -93,9 +77,9 @@ def osd_maps() -> Limited:
         (OSDS, None, "BadLimit"),
         (OSDS + 1, "BadLimit", "BadLimit"),
     ):
-        last, state = count - 1, {"exists": True, "up": True, "weight": FULL}
+        last = count - 1
         wide = a_map([pool(1, 8)]) | {"max_osd": min(count, OSDS)}
-        listed = wide["osds"] + [{"id": last} | state]
+        listed = wide["osds"] + [osd_of(last)]
         yield f"a max_osd of {count:,}", wide | {"max_osd": count}, refusal, plain
         yield f"OSD {last:,}", wide | {"osds": listed}, refusal, plain
         yield f"OSD {last:,} in a bucket", wide | {"buckets": [bucket(-1, [0, last], "list")]}, refusal, plain
