@@ -4,10 +4,11 @@ may not be made: status 1 where there is one.
 
     works.py [ROOT]
 
-A run of a rule needs a `Work`, which counts it by a clause, and its searches by a token (a `Tip` of tip). A monitor
-makes one `Work`, which its state lends to all that runs rules, and clauses of the state say how many runs there were.
-Runs with a second work, and searches with a second token, would be counted elsewhere, and no contract could tell. So
-each of these is made in the files that stand here, in one place of each, and in no other.
+A run of a rule needs a `Work`, which counts it by a clause, and its searches by a token (a `Tip` of tip). A state makes
+rooms, each with a `Work`, once, when it is opened. It lends them to all that runs rules, and clauses of the state say how
+many runs they have counted together. Runs with another work, and searches with another token, would be counted
+elsewhere, and no contract could tell. So each of these is made in the files that stand here, in one place of each, and
+in no other.
 """
 
 from __future__ import annotations
@@ -18,13 +19,14 @@ import re
 import sys
 
 WORKS = {
-    "monitor/src/open.rt": "the one that all runs of a monitor's state are counted in",
+    "pgtable/src/rooms.rt": "one for each room that groups are placed in",
     "monitor/src/follower.rt": "a follower answers from a map of its own, which has no table and no patch",
 }
 TOKENS = {
     "crush/src/work.rt": "the one by which a work knows its searches",
     "monitor/src/open.rt": "the one by which members know what they have seen",
 }
+ROOMS = {"state/src/state.rt": "the rooms that all runs of a state are counted in"}
 STATES = {"monitor/src/open.rt": "the state of the monitor"}
 FOLLOWERS = {
     "session/src/following.rt": "the follower of a session",
@@ -34,6 +36,7 @@ FOLLOWERS = {
 MAKERS: dict[str, tuple[str, dict[str, str]]] = {
     "Work": ("crush", WORKS),
     "Tip": ("tip", TOKENS),
+    "Rooms": ("pgtable", ROOMS),
     "State": ("state", STATES),
     "Follower": ("monitor", FOLLOWERS),
 }

@@ -6,10 +6,11 @@ use keylist::Entries;
 use mapjson::{read_change, read_map};
 use mapparts::Profile;
 use maptypes::{Change, ChangeParts, Incremental};
-use monitor::{Member, Monitor};
+use monitor::{Limits, Member, Monitor};
 use refusal::Refusal;
 use std::alloc::Global;
 use std::sync::Wait;
+use std::thread::Threads;
 
 /// Four devices, and an explicit set for the one group.
 pub const FOUR_DEVICES: &str = concat!(
@@ -34,11 +35,21 @@ fn two_of(monitor: &Monitor, members: Vec<Member>) -> Option<(Member, Member)>
 }
 
 /// A monitor of the map of a text, and two members of it, whose seats may draw so often.
-pub fn open_for_two(alloc: Global, text: &str, draws: u64) -> Option<(Monitor, Member, Member)>
+pub fn open_for_two<R: Threads + Sync>(
+    rt: &R,
+    alloc: Global,
+    text: &str,
+    draws: u64,
+) -> Option<(Monitor, Member, Member)>
     ensures { IfSome result (λ r. IsNewMemberOf r.0 r.1 × IsNewMemberOf r.0 r.2) }
 {
     let map = read_map(alloc, text.as_bytes(), Profile::Plain).ok()?;
-    let (monitor, members) = Monitor::open_limited(alloc, map, 16, 2, draws).ok()?;
+    let limits = Limits {
+        journal: 16,
+        seats: 2,
+        draws,
+    };
+    let (monitor, members) = Monitor::open_limited(rt, alloc, map, limits).ok()?;
     let (one, other) = two_of(&monitor, members)?;
     Some((monitor, one, other))
 }

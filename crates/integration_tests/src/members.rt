@@ -6,13 +6,14 @@ use crate::examples::{FOUR_DEVICES, open_for_two};
 use mapjson::read_map;
 use mapparts::Profile;
 use maptypes::Pg;
-use monitor::{Member, Monitor};
+use monitor::{Limits, Member, Monitor};
 use refusal::Refusal;
 use session::{Buffer, Desk, Gate};
 use std::alloc::Global;
 use std::sync::Wait;
 use std::sync::atomic::{AtomicU64, Ordering};
 use std::test::Fail;
+use std::thread::Threads;
 
 /// How many of the five questions a member is answered.
 fn count_answers<R: Wait>(rt: &R, monitor: &Monitor, member: Member) -> u32
@@ -44,8 +45,8 @@ fn count_beside_look<R: Wait>(rt: &R, monitor: &Monitor, one: Member, other: Mem
 }
 
 /// How many are answered beside a look at a new monitor.
-fn count_at_new_monitor<R: Wait>(rt: &R, alloc: Global) -> Option<u32> {
-    let (monitor, one, other) = open_for_two(alloc, FOUR_DEVICES, 1024)?;
+fn count_at_new_monitor<R: Wait + Threads + Sync>(rt: &R, alloc: Global) -> Option<u32> {
+    let (monitor, one, other) = open_for_two(rt, alloc, FOUR_DEVICES, 1024)?;
     count_beside_look(rt, &monitor, one, other)
 }
 
@@ -78,8 +79,8 @@ impl<'a> Gate for Counting<'a> {
 }
 
 /// How often the gate of a session is asked.
-fn count_asks<R: Wait>(rt: &R, alloc: Global, script: &[u8]) -> Option<u64> {
-    let (monitor, mut member, _) = open_for_two(alloc, FOUR_DEVICES, 1024)?;
+fn count_asks<R: Wait + Threads + Sync>(rt: &R, alloc: Global, script: &[u8]) -> Option<u64> {
+    let (monitor, mut member, _) = open_for_two(rt, alloc, FOUR_DEVICES, 1024)?;
     let count = AtomicU64::new(0);
     let gate = Counting { asked: &count };
     let mut answers = Buffer::new(alloc);
@@ -104,18 +105,32 @@ fn a_gate_is_asked_once_for_a_line(rt: HostRuntime) -> Result<(), Fail> {
 }
 
 /// How many members a monitor with so many seats has.
-fn member_count(alloc: Global, seats: u32) -> Option<Result<usize, Refusal>> {
+fn member_count<R: Threads + Sync>(
+    rt: &R,
+    alloc: Global,
+    seats: u32,
+) -> Option<Result<usize, Refusal>> {
     let map = read_map(alloc, FOUR_DEVICES.as_bytes(), Profile::Plain).ok()?;
-    match Monitor::open(alloc, map, 16, seats) {
+    match Monitor::open(rt, alloc, map, 16, seats) {
         Ok((_, members)) => Some(Ok(members.len())),
         Err(refusal) => Some(Err(refusal)),
     }
 }
 
 /// How many members a monitor with so many seats has, each with so many draws.
-fn limited_member_count(alloc: Global, seats: u32, draws: u64) -> Option<Result<usize, Refusal>> {
+fn limited_member_count<R: Threads + Sync>(
+    rt: &R,
+    alloc: Global,
+    seats: u32,
+    draws: u64,
+) -> Option<Result<usize, Refusal>> {
     let map = read_map(alloc, FOUR_DEVICES.as_bytes(), Profile::Plain).ok()?;
-    match Monitor::open_limited(alloc, map, 16, seats, draws) {
+    let limits = Limits {
+        journal: 16,
+        seats,
+        draws,
+    };
+    match Monitor::open_limited(rt, alloc, map, limits) {
         Ok((_, members)) => Some(Ok(members.len())),
         Err(refusal) => Some(Err(refusal)),
     }
@@ -125,23 +140,23 @@ fn limited_member_count(alloc: Global, seats: u32, draws: u64) -> Option<Result<
 #[test]
 fn a_monitor_has_up_to_1024_seats(rt: HostRuntime) -> Result<(), Fail> {
     let alloc = rt.alloc();
-    assert!(rt; member_count(alloc, 1024) == Some(Ok(1024)));
-    assert!(rt; member_count(alloc, 1025) == Some(Err(Refusal::BadLimit)));
-    assert!(rt; limited_member_count(alloc, 1024, 1 << 40) == Some(Ok(1024)));
-    assert!(rt; limited_member_count(alloc, 1025, 1) == Some(Err(Refusal::BadLimit)));
-    assert!(rt; limited_member_count(alloc, 1, (1 << 40) + 1) == Some(Err(Refusal::BadLimit)));
+    assert!(rt; member_count(&rt, alloc, 1024) == Some(Ok(1024)));
+    assert!(rt; member_count(&rt, alloc, 1025) == Some(Err(Refusal::BadLimit)));
+    assert!(rt; limited_member_count(&rt, alloc, 1024, 1 << 40) == Some(Ok(1024)));
+    assert!(rt; limited_member_count(&rt, alloc, 1025, 1) == Some(Err(Refusal::BadLimit)));
+    assert!(rt; limited_member_count(&rt, alloc, 1, (1 << 40) + 1) == Some(Err(Refusal::BadLimit)));
     Ok(())
 }
 
 /// By which profile a new monitor reads the texts of changes.
-fn profile_at_first(alloc: Global) -> Option<Profile> {
-    let (monitor, _, _) = open_for_two(alloc, FOUR_DEVICES, 1024)?;
+fn profile_at_first<R: Threads + Sync>(rt: &R, alloc: Global) -> Option<Profile> {
+    let (monitor, _, _) = open_for_two(rt, alloc, FOUR_DEVICES, 1024)?;
     Some(monitor.profile())
 }
 
 /// What a plain map may not have comes in by no change.
 #[test]
 fn a_new_monitor_reads_plain_changes(rt: HostRuntime) -> Result<(), Fail> {
-    assert!(rt; profile_at_first(rt.alloc()) == Some(Profile::Plain));
+    assert!(rt; profile_at_first(&rt, rt.alloc()) == Some(Profile::Plain));
     Ok(())
 }

@@ -85,12 +85,12 @@ impl Sink for Slow {
 
 /// A change and a question over four devices, to a sink that takes some calls: how the session ends, what is out, and
 /// whether another member then sees the change.
-fn run_cut_off<R: Wait>(
+fn run_cut_off<R: Wait + Threads + Sync>(
     rt: &R,
     alloc: Global,
     calls: usize,
 ) -> Option<(Result<(), SessionError>, Slow, bool)> {
-    let (monitor, mut member, mut other) = open_for_two(alloc, FOUR_DEVICES, 1024)?;
+    let (monitor, mut member, mut other) = open_for_two(rt, alloc, FOUR_DEVICES, 1024)?;
     let mut slow = slow_sink(alloc, calls, false);
     let script = b"change {\"base\":1,\"down\":[2]}\nup 1.0\n";
     let desk = Desk {
@@ -133,8 +133,11 @@ fn a_session_ends_at_each_failed_write(rt: HostRuntime) -> Result<(), Fail> {
 }
 
 /// What a session answers whose seat may draw twice, and how it ends.
-fn run_spent_seat<R: Wait>(rt: &R, alloc: Global) -> Option<(Result<(), SessionError>, Buffer)> {
-    let (monitor, mut member, _) = open_for_two(alloc, FOUR_DEVICES, 2)?;
+fn run_spent_seat<R: Wait + Threads + Sync>(
+    rt: &R,
+    alloc: Global,
+) -> Option<(Result<(), SessionError>, Buffer)> {
+    let (monitor, mut member, _) = open_for_two(rt, alloc, FOUR_DEVICES, 2)?;
     let mut answers = Buffer::new(alloc);
     let script = b"epoch\nepoch\nepoch\nhello\nfup 1.0\n";
     let desk = Desk {
@@ -261,7 +264,7 @@ fn meet<R: Wait + Threads + Sync>(
 
 /// Whether both of two such sessions end well at a new monitor.
 fn meet_at_new_monitor<R: Wait + Threads + Sync>(rt: &R, alloc: Global, held: u64) -> Option<bool> {
-    let (monitor, one, other) = open_for_two(alloc, FOUR_DEVICES, 1024)?;
+    let (monitor, one, other) = open_for_two(rt, alloc, FOUR_DEVICES, 1024)?;
     Some(meet(rt, alloc, &monitor, (one, other), held))
 }
 
@@ -297,8 +300,13 @@ const FORTY_BEHIND: &str = concat!(
 );
 
 /// What a script answers by a seat that may draw so often.
-fn answers_by_draws<R: Wait>(rt: &R, alloc: Global, draws: u64, script: &str) -> Option<Buffer> {
-    let (monitor, mut member, _) = open_for_two(alloc, FOUR_DEVICES, draws)?;
+fn answers_by_draws<R: Wait + Threads + Sync>(
+    rt: &R,
+    alloc: Global,
+    draws: u64,
+    script: &str,
+) -> Option<Buffer> {
+    let (monitor, mut member, _) = open_for_two(rt, alloc, FOUR_DEVICES, draws)?;
     let mut answers = Buffer::new(alloc);
     let desk = Desk {
         alloc,
@@ -354,12 +362,12 @@ fn a_seat_is_spent_at_its_line_after_a_change(rt: HostRuntime) -> Result<(), Fai
 }
 
 /// How 40 questions end to a sink that takes some calls, what is out, and whether another member then commits.
-fn ask_cut_off<R: Wait>(
+fn ask_cut_off<R: Wait + Threads + Sync>(
     rt: &R,
     alloc: Global,
     calls: usize,
 ) -> Option<(Result<(), SessionError>, Slow, bool)> {
-    let (monitor, mut member, mut other) = open_for_two(alloc, FOUR_DEVICES, MAX_DRAWS)?;
+    let (monitor, mut member, mut other) = open_for_two(rt, alloc, FOUR_DEVICES, MAX_DRAWS)?;
     let mut slow = slow_sink(alloc, calls, false);
     let desk = Desk {
         alloc,
@@ -403,8 +411,8 @@ fn a_run_of_questions_ends_at_each_failed_write(rt: HostRuntime) -> Result<(), F
 }
 
 /// How often a session draws for three questions, to a sink whose writes may wait or do not.
-fn draws_for_three<R: Wait>(rt: &R, alloc: Global, waits: bool) -> Option<u64> {
-    let (monitor, mut member, _) = open_for_two(alloc, FOUR_DEVICES, MAX_DRAWS)?;
+fn draws_for_three<R: Wait + Threads + Sync>(rt: &R, alloc: Global, waits: bool) -> Option<u64> {
+    let (monitor, mut member, _) = open_for_two(rt, alloc, FOUR_DEVICES, MAX_DRAWS)?;
     let mut slow = slow_sink(alloc, 9, waits);
     let desk = Desk {
         alloc,
@@ -461,8 +469,8 @@ fn looks<R: Wait>(rt: &R, monitor: &Monitor, one: Member, other: Member) -> Opti
 }
 
 /// The epochs of the looks of two members, after a commit of the one.
-fn epochs_after_commit<R: Wait>(rt: &R, alloc: Global) -> Option<(u64, u64)> {
-    let (monitor, mut one, other) = open_for_two(alloc, FOUR_DEVICES, 1024)?;
+fn epochs_after_commit<R: Wait + Threads + Sync>(rt: &R, alloc: Global) -> Option<(u64, u64)> {
+    let (monitor, mut one, other) = open_for_two(rt, alloc, FOUR_DEVICES, 1024)?;
     let _ = commit_now(rt, alloc, &monitor, &mut one, DOWN);
     looks(rt, &monitor, one, other)
 }

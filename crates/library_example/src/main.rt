@@ -87,7 +87,7 @@ fn follow_beside<R: Wait + Threads + Sync>(
 fn run<R: Wait + Threads + Print + AllocGlobal + Sync>(rt: &R) -> Result<(), Refusal> {
     let alloc = rt.alloc();
     let map = read_map(alloc, MAP.as_bytes(), Profile::Plain)?;
-    let (monitor, mut members) = Monitor::open(alloc, map, 16, 1)?;
+    let (monitor, mut members) = Monitor::open(rt, alloc, map, 16, 1)?;
     let Some(mut member) = members.pop() else {
         unreachable!()
     };

@@ -8,7 +8,6 @@ ghost use Rattle.monitor.specs.Opening.{can_open, can_open_with, StartsWith};
 use crate::locked::Locked;
 use crate::member::Member;
 use crate::monitor::Monitor;
-use crush::Work;
 use epochlog::{MAX_CAPACITY, MAX_FIRST_EPOCH, Row};
 use keeping::{Keeps, Nothing};
 use mapparts::Profile;
@@ -16,6 +15,7 @@ use osdmap::OsdMap;
 use refusal::{Memory, Refusal};
 use state::State;
 use std::alloc::Global;
+use std::thread::Threads;
 use ticketlock::limits::{MAX_DRAWS, MAX_SEATS};
 use ticketlock::{Lock, LockError, Seat};
 use tip::{Kept, Mine, Seen, Tip, pair};
@@ -177,7 +177,8 @@ impl<K: Keeps + Drop> Monitor<K> {
     }
 
     /// The monitor with these limits, which hold, and its members.
-    fn open_within(
+    fn open_within<R: Threads + Sync>(
+        rt: &R,
         alloc: Global,
         map: OsdMap,
         limits: Limits,
@@ -188,8 +189,7 @@ impl<K: Keeps + Drop> Monitor<K> {
         ensures { IfOk result (λ r. IsOpeningWith map.map limits r.0 r.1.items) }
     {
         let row = Row::of_fitting(alloc, map.epoch(), limits.journal)?;
-        let work = Work::new(alloc, map.forest())?;
-        let state = State::new(alloc, map, &row, work, store)?;
+        let state = State::new(rt, alloc, map, &row, store)?;
         let first = state.share_first()?;
         let (lock, seats, counting) = lock_state(alloc, state, limits.seats, limits.draws)?;
         let monitor = Monitor {
@@ -211,7 +211,8 @@ impl<K: Keeps + Drop> Monitor<K> {
     ///
     /// `BadLimit` (12) exactly where the map's epoch is not 1 to 2,147,483,648, or one of the limits is not within its
     /// own; else `Memory` (30) where there is no memory for it.
-    pub fn open_stored(
+    pub fn open_stored<R: Threads + Sync>(
+        rt: &R,
         alloc: Global,
         map: OsdMap,
         limits: Limits,
@@ -224,7 +225,7 @@ impl<K: Keeps + Drop> Monitor<K> {
         if !can_open(map.epoch(), limits) {
             return Err(Refusal::BadLimit);
         }
-        Ok(Monitor::open_within(alloc, map, limits, store)?)
+        Ok(Monitor::open_within(rt, alloc, map, limits, store)?)
     }
 }
 
@@ -239,22 +240,16 @@ impl Monitor<Nothing> {
     ///
     /// `BadLimit` (12) exactly where the map's epoch is not 1 to 2,147,483,648, `journal` not 1 to 65,536 epochs,
     /// `seats` not 1 to 1,024 or `draws` not 1 to 2^40; else `Memory` (30) where there is no memory for it.
-    pub fn open_limited(
+    pub fn open_limited<R: Threads + Sync>(
+        rt: &R,
         alloc: Global,
         map: OsdMap,
-        journal: u32,
-        seats: u32,
-        draws: u64,
+        limits: Limits,
     ) -> Result<(Monitor<Nothing>, Vec<Member>), Refusal>
-        ensures { Gives result (refused_unless (can_open map.map.epoch journal seats draws) BadLimit)
-            (λ r. IsOpening map.map journal seats draws Profile.Plain r.0 r.1.items) }
+        ensures { Gives result (refused_unless (can_open map.map.epoch limits.journal limits.seats limits.draws) BadLimit)
+            (λ r. IsOpening map.map limits.journal limits.seats limits.draws Profile.Plain r.0 r.1.items) }
     {
-        let limits = Limits {
-            journal,
-            seats,
-            draws,
-        };
-        Monitor::open_stored(alloc, map, limits, Nothing)
+        Monitor::open_stored(rt, alloc, map, limits, Nothing)
     }
 
     /// A monitor as [`Monitor::open_limited`] opens it, each seat with the most draws, which are 2^40.
@@ -262,7 +257,8 @@ impl Monitor<Nothing> {
     /// # Errors
     ///
     /// Those of [`Monitor::open_limited`].
-    pub fn open(
+    pub fn open<R: Threads + Sync>(
+        rt: &R,
         alloc: Global,
         map: OsdMap,
         journal: u32,
@@ -271,6 +267,11 @@ impl Monitor<Nothing> {
         ensures { Gives result (refused_unless (can_open map.map.epoch journal seats max_draws) BadLimit)
             (λ r. IsOpening map.map journal seats max_draws Profile.Plain r.0 r.1.items) }
     {
-        Monitor::open_limited(alloc, map, journal, seats, MAX_DRAWS)
+        let limits = Limits {
+            journal,
+            seats,
+            draws: MAX_DRAWS,
+        };
+        Monitor::open_limited(rt, alloc, map, limits)
     }
 }

@@ -10,3 +10,4 @@ pub mod States
 pub mod ChangedSets
 pub mod PoolPatches
 pub mod PatchedInPlace
+pub mod Parts

@@ -4,3 +4,4 @@ pub mod Candidates
 pub mod Patches
 pub mod PoolPatches
 pub mod After
+pub mod Rooms

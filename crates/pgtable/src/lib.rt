@@ -3,6 +3,7 @@
 //! the change can place otherwise.
 //!
 //! - `table`, `pool_table`: the table of a map and what it shows, and the part of one pool
+//! - `rooms`: where the groups of a large pool are placed side by side, in threads
 //! - `mapped`, `shown`: mapped sets as they are stored, and as callers see them
 //! - `patch`, `group_patches`, `prepare`, `install`: what a change makes of a table, how it is found, and how it is put
 //!   in
@@ -19,6 +20,7 @@ mod mapped;
 pub mod patch;
 pub mod pool_table;
 mod prepare;
+pub mod rooms;
 mod sets;
 mod shown;
 pub mod table;
@@ -26,4 +28,5 @@ mod table_patch;
 mod update;
 
 pub use patch::Patch;
+pub use rooms::Rooms;
 pub use table::PgTable;

@@ -5,6 +5,7 @@ ghost use Rattle.osdmap.specs.Maps.{pool_at};
 ghost use Rattle.pgtable.specs.Tables.{pool_table, RunsMore};
 
 use crate::mapped::all_mapped_sets;
+use crate::rooms::Rooms;
 use crate::shown::places_in;
 use crush::Work;
 use grouptable::GroupTable;
@@ -13,6 +14,7 @@ use maptypes::{Pg, Pool, Short};
 use osdmap::OsdMap;
 use refusal::Memory;
 use std::alloc::Global;
+use std::thread::Threads;
 
 /// The sets of the groups of one pool, and for each OSD the groups in whose set it stands.
 #[derive(Drop)]
@@ -28,6 +30,7 @@ impl PoolTable {
     ghost use Rattle.maptypes.specs.Pools.{PoolFacts};
     ghost use Rattle.osdmap.specs.Maps.{ClusterMap, pool_at};
     ghost use Rattle.osdmap.specs.Placement.{mapped_set};
+    ghost use Rattle.pgtable.specs.Rooms.{RunMore};
     ghost use Rattle.pgtable.specs.Tables.{pool_table, groups_on, RunsMore};
 
     /// The mapped sets of the groups of a pool of a map, by a run of the pool's rule for each; or `Memory` (30).
@@ -43,6 +46,25 @@ impl PoolTable {
     {
         pool.is_within_limits();
         let sets = all_mapped_sets(alloc, map, &pool, work)?;
+        let groups = GroupTable::of(alloc, sets)?;
+        Ok(PoolTable { pool, groups })
+    }
+
+    /// The mapped sets of the groups of a pool of a map, by a run of the pool's rule for each, in these rooms; or
+    /// `Memory` (30).
+    pub(crate) fn of_rooms<R: Threads + Sync>(
+        rt: &R,
+        alloc: Global,
+        map: &OsdMap,
+        pool: Pool,
+        rooms: &mut Rooms,
+    ) -> Result<PoolTable, Memory>
+        requires { pool_at map.now.map.pools pool.id ≡ Some pool }
+        ensures table { IfOk result (λ t. t ≡ pool_table map.now.map pool) }
+        ensures runs { OnOk result (RunMore pool.pg_num rooms.old rooms.new) }
+    {
+        pool.is_within_limits();
+        let sets = rooms.all_sets(rt, alloc, map, &pool)?;
         let groups = GroupTable::of(alloc, sets)?;
         Ok(PoolTable { pool, groups })
     }

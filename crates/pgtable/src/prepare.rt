@@ -5,6 +5,7 @@ ghost use Rattle.osdmap.specs.Marks.{are_below};
 ghost use Rattle.pgtable.specs.Patches.{is_empty, leaves_pools, leaves_raw_sets, with_ups};
 
 use crate::patch::Patch;
+use crate::rooms::Rooms;
 use crate::table::PgTable;
 use crate::update::Update;
 use crush::Work;
@@ -57,6 +58,7 @@ impl PgTable {
     ghost use Rattle.osdmap.specs.Changes.{change_fault};
     ghost use Rattle.osdmap.specs.Evals.{evals_of};
     ghost use Rattle.pgtable.specs.After.{IsPatchBy};
+    ghost use Rattle.pgtable.specs.Rooms.{RunMore};
     ghost use Rattle.pgtable.specs.Tables.{IsTableOf, RunsMore};
 
     /// Which OSDs are up after a change; or `Memory` (30).
@@ -87,13 +89,8 @@ impl PgTable {
         })
     }
 
-    /// All that a change makes of the table of a map that does not refuse it. It tells the evaluations of the change,
-    /// and `work` counts a rule run for each of them, and no other.
-    ///
-    /// # Errors
-    ///
-    /// `Memory` (30) where there is no memory for it. `work` may then count some of the runs.
-    pub fn prepare(
+    /// What [`PgTable::prepare`] makes, all in one room.
+    fn prepare_in_one(
         &self,
         alloc: Global,
         map: &OsdMap,
@@ -116,5 +113,28 @@ impl PgTable {
         let update = Update::new(alloc, map, change, &after, true)?;
         let patch = self.make_patch(alloc, &update, work)?;
         Ok(patch)
+    }
+
+    /// All that a change makes of the table of a map that does not refuse it. It tells the evaluations of the change,
+    /// and `rooms` count a rule run for each of them, and no other.
+    ///
+    /// # Errors
+    ///
+    /// `Memory` (30) where there is no memory for it. `rooms` may then count some of the runs.
+    pub fn prepare(
+        &self,
+        alloc: Global,
+        map: &OsdMap,
+        change: &Change,
+        rooms: &mut Rooms,
+    ) -> Result<Patch, Memory>
+        requires table { IsTableOf self.now map.now.map }
+        requires lawful { change_fault map.now.map change.now ≡ None }
+        requires epoch { map.now.map.epoch + 1 < 2 ^ 64 }
+        ensures leads { IfOk result (LeadsTo (changed_map map.now.map change.now) self.now) }
+        ensures counted { IfOk result (λ p. p.evals ≡ evals_of (changed_map map.now.map change.now) change.now) }
+        ensures runs { IfOk result (λ p. RunMore p.evals rooms.old rooms.new) }
+    {
+        self.prepare_in_one(alloc, map, change, &mut rooms.rooms[0].work)
     }
 }

@@ -5,14 +5,15 @@ ghost use Rattle.osdmap.specs.Maps.{osd_is_up};
 ghost use Rattle.pgtable.specs.Tables.{ups_of};
 
 use crate::pool_table::PoolTable;
+use crate::rooms::Rooms;
 use crate::shown::show_set;
-use crush::Work;
 use keylist::entry_of;
 use maptypes::{Pg, UpSet};
 use osdmap::OsdMap;
 use refusal::Memory;
 use std::alloc::Global;
 use std::marker::Model;
+use std::thread::Threads;
 
 /// The mapped sets of all groups of a map, which OSDs of it are up, and for each OSD the groups in whose set it stands.
 #[derive(Drop)]
@@ -66,33 +67,43 @@ impl PgTable {
     ghost use Rattle.grouptable.specs.Sets.{groups_of};
     ghost use Rattle.osdmap.specs.Maps.{ClusterMap, pool_at};
     ghost use Rattle.pgtable.specs.Index.{up_at, index_of, count_of, count_in};
-    ghost use Rattle.pgtable.specs.Tables.{IsTableOf, pool_in, pool_table, tables_of, shown_at, shown_groups, shown_in, RunsMore};
+    ghost use Rattle.pgtable.specs.Rooms.{RunMore};
+    ghost use Rattle.pgtable.specs.Tables.{IsTableOf, pool_in, pool_table, tables_of, shown_at, shown_groups, shown_in};
 
     /// The table of a map, by a run of a rule for each of its groups.
     ///
     /// # Errors
     ///
     /// `Memory` (30) where there is no memory for it.
-    pub fn build(alloc: Global, map: &OsdMap, work: &mut Work) -> Result<PgTable, Memory>
+    pub fn build<R: Threads + Sync>(
+        rt: &R,
+        alloc: Global,
+        map: &OsdMap,
+        rooms: &mut Rooms,
+    ) -> Result<PgTable, Memory>
         ensures table { IfOk result (λ t. IsTableOf t map.now.map) }
-        ensures runs { OnOk result (RunsMore (sum_by (λ p. p.pg_num) map.now.map.pools) work.old work.new) }
+        ensures runs { OnOk result (RunMore (sum_by (λ p. p.pg_num) map.now.map.pools) rooms.old rooms.new) }
     {
         map.holds_together();
-        let pools = PgTable::pools_of(alloc, map, work)?;
+        let pools = PgTable::pools_of(rt, alloc, map, rooms)?;
         let up = ups_of(alloc, map)?;
         Ok(PgTable { pools, up })
     }
 
     /// The tables of all pools of a map.
-    fn pools_of(alloc: Global, map: &OsdMap, work: &mut Work) -> Result<Vec<PoolTable>, Memory>
+    fn pools_of<R: Threads + Sync>(
+        rt: &R,
+        alloc: Global,
+        map: &OsdMap,
+        rooms: &mut Rooms,
+    ) -> Result<Vec<PoolTable>, Memory>
         ensures tables { IfOk result (λ pools. pools.items ≡ tables_of map.now.map) }
-        ensures runs { OnOk result (RunsMore (sum_by (λ p. p.pg_num) map.now.map.pools) work.old work.new) }
+        ensures runs { OnOk result (RunMore (sum_by (λ p. p.pg_num) map.now.map.pools) rooms.old rooms.new) }
     {
         map.holds_together();
-        let _ = work.runs();
         let mut pools = Vec::with_capacity(alloc, map.pools().len())?;
         for pool in map.pools() {
-            pools.push(PoolTable::of(alloc, map, *pool, work)?)?;
+            pools.push(PoolTable::of_rooms(rt, alloc, map, *pool, rooms)?)?;
         }
         Ok(pools)
     }

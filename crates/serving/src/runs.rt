@@ -74,7 +74,8 @@ fn have_told(lefts: &[Left]) -> bool
 /// # Errors
 ///
 /// `BadLimit` (12) exactly where the map's epoch is not 1 to 2,147,483,648; else `Memory` (30).
-fn open_monitor<K: Keeps + Drop>(
+fn open_monitor<R: Threads + Sync, K: Keeps + Drop>(
+    rt: &R,
     alloc: Global,
     first: First<K>,
     terms: Terms,
@@ -90,7 +91,7 @@ fn open_monitor<K: Keeps + Drop>(
         seats: seats as u32,
         draws: MAX_DRAWS,
     };
-    let (monitor, members) = Monitor::open_stored(alloc, first.map, limits, first.store)?;
+    let (monitor, members) = Monitor::open_stored(rt, alloc, first.map, limits, first.store)?;
     Ok((monitor.with_profile(terms.profile), members))
 }
 
@@ -130,7 +131,7 @@ pub fn serve_map<
     ensures failed { W.has_failed out.new ≡ has_output_failed result }
 {
     let alloc = system.rt.alloc();
-    let (monitor, members) = match open_monitor(alloc, first, terms, parts.len()) {
+    let (monitor, members) = match open_monitor(system.rt, alloc, first, terms, parts.len()) {
         Ok(made) => made,
         Err(refusal) => return Err(Fault::of_refusal(refusal)),
     };

@@ -6,21 +6,22 @@ ghost use Rattle.epochlog.specs.Epochs.{epoch_of};
 ghost use Rattle.keeping.specs.Journals.{with_step};
 ghost use Rattle.keeping.specs.Stores.{IsKeptBy};
 ghost use Rattle.osdmap.specs.Changes.{change_fault, apply};
-ghost use Rattle.pgtable.specs.Tables.{IsTableOf, RunsMore};
+ghost use Rattle.pgtable.specs.Rooms.{RunMore};
+ghost use Rattle.pgtable.specs.Tables.{IsTableOf};
 ghost use Rattle.pgtable.specs.Patches.{LeadsTo};
 ghost use Rattle.osdmap.specs.Stored.{HasRoomFor};
 ghost use Rattle.state.specs.States.{IsReady, journal};
 
 use crate::shared_map::SharedMap;
-use crush::Work;
 use epochlog::{NotSealed, Pass, Row};
 use keeping::{Keeper, Keeps, Kept, Nothing};
 use maptypes::{Change, Incremental};
 use osdmap::OsdMap;
-use pgtable::{Patch, PgTable};
+use pgtable::{Patch, PgTable, Rooms};
 use refusal::{Memory, Refusal};
 use std::alloc::Global;
 use std::marker::Model;
+use std::thread::Threads;
 
 /// What a commit made.
 #[derive(Clone, Copy, Debug, PartialEq, Eq)]
@@ -31,7 +32,7 @@ pub struct Commit {
     pub evals: usize,
 }
 
-/// The state of a monitor, where it takes memory, the work that it lends to all that runs rules, and the keeper of its
+/// The state of a monitor, where it takes memory, the rooms that it lends to all that runs rules, and the keeper of its
 /// journal.
 #[derive(Drop)]
 pub struct State<K: Keeps + Drop = Nothing> {
@@ -40,30 +41,31 @@ pub struct State<K: Keeps + Drop = Nothing> {
     pub(crate) pass: Pass,
     pub(crate) map: OsdMap,
     pub(crate) table: PgTable,
-    pub(crate) work: Work,
+    pub(crate) rooms: Rooms,
     pub(crate) keeper: Keeper<K>,
 }
 
 impl<K: Keeps + Drop> Model for State<K> {
     ghost use Rattle.keeping.specs.Stores.{IsKeptBy};
+    ghost use Rattle.pgtable.specs.Rooms.{runs_of};
     ghost use Rattle.state.specs.States.{StateFacts, IsKept, facts, journal};
 
     ghost Value = { StateFacts };
 
-    ghost view = { λ s. facts s.first.map s.pass s.map.map s.work.runs s.keeper.has_failed };
+    ghost view = { λ s. facts s.first.map s.pass s.map.map (runs_of s.rooms) s.keeper.has_failed };
 
     ghost invariant = { λ s.
-        IsKept (facts s.first.map s.pass s.map.map s.work.runs s.keeper.has_failed) s.table
+        IsKept (facts s.first.map s.pass s.map.map (runs_of s.rooms) s.keeper.has_failed) s.table
         × IsKeptBy K.holds K.may_leave K.may_fail s.keeper (journal s.first.map s.pass.history) };
 }
 
-/// All that a commit needs memory for: room in the map, the patch of its table, for which `work` counts a rule run for
+/// All that a commit needs memory for: room in the map, the patch of its table, for which `rooms` count a rule run for
 /// each evaluation, and the incremental of the next epoch in a box.
 fn prepare(
     alloc: Global,
     map: &mut OsdMap,
     table: &PgTable,
-    work: &mut Work,
+    rooms: &mut Rooms,
     change: Change,
 ) -> Result<(Patch, Box<Incremental>), Memory>
     requires table { IsTableOf table.now map.old.map }
@@ -74,7 +76,7 @@ fn prepare(
     ensures runs { IfOk result (λ r. RunsMore r.0.evals work.old work.new) }
 {
     map.reserve_for(alloc, &change)?;
-    let patch = table.prepare(alloc, map, &change, work)?;
+    let patch = table.prepare(alloc, map, &change, rooms)?;
     let step = Box::new(alloc, Incremental::new(map.epoch() + 1, change))?;
     Ok((patch, step))
 }
@@ -130,36 +132,35 @@ impl<K: Keeps + Drop> State<K> {
     ghost use Rattle.keeping.specs.Journals.{Journal, HasAll};
     ghost use Rattle.state.specs.States.{journal, opened, max_epoch, Commits, fault_in};
 
-    /// The state at its beginning: no change yet. It is for a row whose first epoch is the map's. From here on, `work`
-    /// counts all runs of rules of the state: one for each group now, then one for each evaluation of a change. The
-    /// store holds the map and no change yet.
+    /// The state at its beginning: no change yet. It is for a row whose first epoch is the map's. It makes rooms for its
+    /// groups, in threads where these are many, which count all runs of rules of the state: one for each group now, then
+    /// one for each evaluation of a change. The store holds the map and no change yet.
     ///
     /// # Errors
     ///
     /// `Memory` (30) where there is no memory for it.
-    pub fn new(
+    pub fn new<R: Threads + Sync>(
+        rt: &R,
         alloc: Global,
         map: OsdMap,
         row: &Row,
-        work: Work,
         store: K,
     ) -> Result<State<K>, Memory>
         requires row { row.now.first ≡ map.map.epoch }
-        requires fresh { work.runs ≡ 0 }
         requires held { K.holds store (journal map.map []) }
         ensures { IfOk result (λ s. s ≡ opened map.map row.now) }
     {
         let first = SharedMap::copy_of(alloc, &map)?;
         let pass = row.pass(alloc)?;
-        let mut work = work;
-        let table = PgTable::build(alloc, &map, &mut work)?;
+        let mut rooms = Rooms::new(rt, alloc, &map)?;
+        let table = PgTable::build(rt, alloc, &map, &mut rooms)?;
         Ok(State {
             alloc,
             first,
             pass,
             map,
             table,
-            work,
+            rooms,
             keeper: Keeper::new(store),
         })
     }
@@ -249,7 +250,7 @@ impl<K: Keeps + Drop> State<K> {
             self.alloc,
             &mut self.map,
             &self.table,
-            &mut self.work,
+            &mut self.rooms,
             change,
         )?;
         let kept = self.keeper.keep(step)?;

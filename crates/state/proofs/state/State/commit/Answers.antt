@@ -6,6 +6,7 @@ use Rattle.maptypes.specs.Incrementals.{Step}
 use Rattle.epochlog.specs.Epochs.{Seen, epoch_of}
 use Rattle.keeping.specs.Journals.{Journal, with_step}
 use Rattle.keeping.specs.Stores.{IsKeptBy}
+use Rattle.pgtable.specs.Rooms.{runs_of}
 use Rattle.state.specs.States.{StateFacts, facts, journal, fault_in, counted, ran, committed, next_step, longer_by}
 use Rattle.state.proofs.Journals.{IsAccepted, accepted, IsKept-committed, IsKept-ran, pass-epoch, with_parts}
 use Rattle.state.proofs.Committing.{early_fits, follows, sealed, journal_kept}
@@ -36,14 +37,14 @@ seal-requires-clause-room g c =
 
 pub seal-requires-clause-next : goal.seal-requires-clause-next
 seal-requires-clause-next g c =
-    let k : StateFacts = facts c.self.inside.first.map c.self.inside.pass c.self.inside.map.map c.self.inside.work.runs c.self.inside.keeper.has_failed in
+    let k : StateFacts = facts c.self.inside.first.map c.self.inside.pass c.self.inside.map.map (runs_of c.self.inside.rooms) c.self.inside.keeper.has_failed in
     let mine : c.args.pass.now ≡ k.pass = c.requires.pass ∙ ap (λ (s : StateFacts). s.pass) (sym c.self.view_is) in
     let step : c.in_ok-patch.step.value ≡ next_step k.map c.args.change = rw c.prepare.ensures.same at c.in_ok-patch.ensures.ready.step in
     ap (λ (s : Step). s.epoch) (c.in_ok-kept.ensures.same_step.0 ∙ step) ∙ ap (λ n. n + 1) (sym (pass-epoch k c.self.inside.table c.self.invariant.0) ∙ ap (λ (s : Seen). epoch_of s) (sym mine))
 
 pub at-requires-clause-after : goal.at-requires-clause-after
 at-requires-clause-after g c =
-    let k : StateFacts = facts c.self.inside.first.map c.self.inside.pass c.self.inside.map.map c.self.inside.work.runs c.self.inside.keeper.has_failed in
+    let k : StateFacts = facts c.self.inside.first.map c.self.inside.pass c.self.inside.map.map (runs_of c.self.inside.rooms) c.self.inside.keeper.has_failed in
     let fine : fault_in c.args.self.now c.args.base c.args.change ≡ None = search rules in
     let ok : IsAccepted k c.args.base c.args.change = rw (← c.self.view_is) at (accepted c.args.self.now c.args.base c.args.change fine) in
     let mine : c.args.pass.now ≡ k.pass = c.requires.pass ∙ ap (λ (s : StateFacts). s.pass) (sym c.self.view_is) in
@@ -57,7 +58,7 @@ at-requires-clause-after g c =
 
 pub at-requires-clause-seen : goal.at-requires-clause-seen
 at-requires-clause-seen g c =
-    let k : StateFacts = facts c.self.inside.first.map c.self.inside.pass c.self.inside.map.map c.self.inside.work.runs c.self.inside.keeper.has_failed in
+    let k : StateFacts = facts c.self.inside.first.map c.self.inside.pass c.self.inside.map.map (runs_of c.self.inside.rooms) c.self.inside.keeper.has_failed in
     let fine : fault_in c.args.self.now c.args.base c.args.change ≡ None = search rules in
     let ok : IsAccepted k c.args.base c.args.change = rw (← c.self.view_is) at (accepted c.args.self.now c.args.base c.args.change fine) in
     let mine : c.args.pass.now ≡ k.pass = c.requires.pass ∙ ap (λ (s : StateFacts). s.pass) (sym c.self.view_is) in
@@ -71,7 +72,7 @@ at-requires-clause-seen g c =
 
 pub apply_step-requires-clause-next : goal.apply_step-requires-clause-next
 apply_step-requires-clause-next g c =
-    let k : StateFacts = facts c.self.inside.first.map c.self.inside.pass c.self.inside.map.map c.self.inside.work.runs c.self.inside.keeper.has_failed in
+    let k : StateFacts = facts c.self.inside.first.map c.self.inside.pass c.self.inside.map.map (runs_of c.self.inside.rooms) c.self.inside.keeper.has_failed in
     let fine : fault_in c.args.self.now c.args.base c.args.change ≡ None = search rules in
     let ok : IsAccepted k c.args.base c.args.change = rw (← c.self.view_is) at (accepted c.args.self.now c.args.base c.args.change fine) in
     let mine : c.args.pass.now ≡ k.pass = c.requires.pass ∙ ap (λ (s : StateFacts). s.pass) (sym c.self.view_is) in
@@ -86,7 +87,7 @@ apply_step-requires-clause-next g c =
 
 pub apply_step-requires-clause-lawful : goal.apply_step-requires-clause-lawful
 apply_step-requires-clause-lawful g c =
-    let k : StateFacts = facts c.self.inside.first.map c.self.inside.pass c.self.inside.map.map c.self.inside.work.runs c.self.inside.keeper.has_failed in
+    let k : StateFacts = facts c.self.inside.first.map c.self.inside.pass c.self.inside.map.map (runs_of c.self.inside.rooms) c.self.inside.keeper.has_failed in
     let fine : fault_in c.args.self.now c.args.base c.args.change ≡ None = search rules in
     let ok : IsAccepted k c.args.base c.args.change = rw (← c.self.view_is) at (accepted c.args.self.now c.args.base c.args.change fine) in
     let mine : c.args.pass.now ≡ k.pass = c.requires.pass ∙ ap (λ (s : StateFacts). s.pass) (sym c.self.view_is) in
@@ -101,7 +102,7 @@ apply_step-requires-clause-lawful g c =
 
 pub apply_step-requires-clause-room : goal.apply_step-requires-clause-room
 apply_step-requires-clause-room g c =
-    let k : StateFacts = facts c.self.inside.first.map c.self.inside.pass c.self.inside.map.map c.self.inside.work.runs c.self.inside.keeper.has_failed in
+    let k : StateFacts = facts c.self.inside.first.map c.self.inside.pass c.self.inside.map.map (runs_of c.self.inside.rooms) c.self.inside.keeper.has_failed in
     let fine : fault_in c.args.self.now c.args.base c.args.change ≡ None = search rules in
     let ok : IsAccepted k c.args.base c.args.change = rw (← c.self.view_is) at (accepted c.args.self.now c.args.base c.args.change fine) in
     let mine : c.args.pass.now ≡ k.pass = c.requires.pass ∙ ap (λ (s : StateFacts). s.pass) (sym c.self.view_is) in
@@ -116,7 +117,7 @@ apply_step-requires-clause-room g c =
 
 pub apply_step-requires-clause-leads : goal.apply_step-requires-clause-leads
 apply_step-requires-clause-leads g c =
-    let k : StateFacts = facts c.self.inside.first.map c.self.inside.pass c.self.inside.map.map c.self.inside.work.runs c.self.inside.keeper.has_failed in
+    let k : StateFacts = facts c.self.inside.first.map c.self.inside.pass c.self.inside.map.map (runs_of c.self.inside.rooms) c.self.inside.keeper.has_failed in
     let fine : fault_in c.args.self.now c.args.base c.args.change ≡ None = search rules in
     let ok : IsAccepted k c.args.base c.args.change = rw (← c.self.view_is) at (accepted c.args.self.now c.args.base c.args.change fine) in
     let mine : c.args.pass.now ≡ k.pass = c.requires.pass ∙ ap (λ (s : StateFacts). s.pass) (sym c.self.view_is) in
@@ -131,7 +132,7 @@ apply_step-requires-clause-leads g c =
 
 pub invariant_of-self-2 : goal.invariant_of-self-2
 invariant_of-self-2 g c =
-    let k : StateFacts = facts c.self.inside.first.map c.self.inside.pass c.self.inside.map.map c.self.inside.work.runs c.self.inside.keeper.has_failed in
+    let k : StateFacts = facts c.self.inside.first.map c.self.inside.pass c.self.inside.map.map (runs_of c.self.inside.rooms) c.self.inside.keeper.has_failed in
     let fine : fault_in c.args.self.now c.args.base c.args.change ≡ None = search rules in
     let ok : IsAccepted k c.args.base c.args.change = rw (← c.self.view_is) at (accepted c.args.self.now c.args.base c.args.change fine) in
     let mine : c.args.pass.now ≡ k.pass = c.requires.pass ∙ ap (λ (s : StateFacts). s.pass) (sym c.self.view_is) in
@@ -151,7 +152,7 @@ invariant_of-self-2 g c =
 
 pub returns-clause-commits : goal.returns-clause-commits
 returns-clause-commits g c =
-    let k : StateFacts = facts c.self.inside.first.map c.self.inside.pass c.self.inside.map.map c.self.inside.work.runs c.self.inside.keeper.has_failed in
+    let k : StateFacts = facts c.self.inside.first.map c.self.inside.pass c.self.inside.map.map (runs_of c.self.inside.rooms) c.self.inside.keeper.has_failed in
     let fine : fault_in c.args.self.now c.args.base c.args.change ≡ None = search rules in
     let ok : IsAccepted k c.args.base c.args.change = rw (← c.self.view_is) at (accepted c.args.self.now c.args.base c.args.change fine) in
     let mine : c.args.pass.now ≡ k.pass = c.requires.pass ∙ ap (λ (s : StateFacts). s.pass) (sym c.self.view_is) in
@@ -164,21 +165,21 @@ returns-clause-commits g c =
     let shown : c.at.result.now ≡ next_step k.map c.args.change = done.shown _ (rw (number, ← row) at c.at.ensures.place) in
     let made : c.apply_step.new.map.map ≡ apply k.map (next_step k.map c.args.change) = rw (shown, c.prepare.ensures.same) at c.apply_step.ensures.map in
     let evaluated : c.in_ok-patch.patch.evals ≡ evals_of (apply k.map (next_step k.map c.args.change)) c.args.change = rw c.prepare.ensures.same at c.in_ok-patch.ensures.ready.counted in
-    let runs : c.prepare.new.work.runs ≡ counted (k.runs + c.evals-evals.result) = c.in_ok-patch.ensures.runs ∙ ap (λ n. counted (k.runs + n)) (sym c.evals-evals.ensures) in
+    let runs : (runs_of c.prepare.new.rooms) ≡ counted (k.runs + c.evals-evals.result) = c.in_ok-patch.ensures.runs ∙ ap (λ n. counted (k.runs + n)) (sym c.evals-evals.ensures) in
     let map_then = apply k.map (next_step k.map c.args.change) in
     let pass_then = longer_by k.pass (next_step k.map c.args.change) in
     let same : c.keep.new.self.has_failed ≡ k.has_failed = c.in_ok-kept.ensures.kept.1 ∙ sym c.in_ok-kept.ensures.kept.0 in
     let before : c.args.self.now.has_failed ≡ false = sym (ap (λ (s : StateFacts). s.has_failed) c.self.view_is) ∙ c.in_ok-kept.ensures.kept.0 in
-    let left = ap (λ (b : Bool). with_parts k c.join.new.self c.apply_step.new.map.map c.prepare.new.work.runs b) same
-    ∙ ap (λ (p : Seen). with_parts k p c.apply_step.new.map.map c.prepare.new.work.runs k.has_failed) done.joined
-    ∙ ap (λ (m : ClusterMap). with_parts k pass_then m c.prepare.new.work.runs k.has_failed) made
+    let left = ap (λ (b : Bool). with_parts k c.join.new.self c.apply_step.new.map.map (runs_of c.prepare.new.rooms) b) same
+    ∙ ap (λ (p : Seen). with_parts k p c.apply_step.new.map.map (runs_of c.prepare.new.rooms) k.has_failed) done.joined
+    ∙ ap (λ (m : ClusterMap). with_parts k pass_then m (runs_of c.prepare.new.rooms) k.has_failed) made
     ∙ ap (λ (n : ℕ). with_parts k pass_then map_then n k.has_failed) runs
     ∙ ap (λ (s : StateFacts). ran c.evals-evals.result (committed s c.args.change)) c.self.view_is in
     ((fine, (before, left, number, c.evals-evals.ensures ∙ evaluated ∙ ap (λ (m : ClusterMap). evals_of m c.args.change) (sym made))), tt)
 
 pub invariant_of-self-in_default : goal.invariant_of-self-in_default
 invariant_of-self-in_default g c =
-    let k : StateFacts = facts c.self.inside.first.map c.self.inside.pass c.self.inside.map.map c.self.inside.work.runs c.self.inside.keeper.has_failed in
+    let k : StateFacts = facts c.self.inside.first.map c.self.inside.pass c.self.inside.map.map (runs_of c.self.inside.rooms) c.self.inside.keeper.has_failed in
     let fine : fault_in c.args.self.now c.args.base c.args.change ≡ None = search rules in
     let ok : IsAccepted k c.args.base c.args.change = rw (← c.self.view_is) at (accepted c.args.self.now c.args.base c.args.change fine) in
     let next = follows k c.self.inside.table c.args.base c.args.change c.in_ok-patch.step.value c.self.invariant.0 ok (rw c.prepare.ensures.same at c.in_ok-patch.ensures.ready.step) in (
@@ -189,7 +190,7 @@ invariant_of-self-in_default g c =
 
 pub invariant_of-self-in_err-kept : goal.invariant_of-self-in_err-kept
 invariant_of-self-in_err-kept g c =
-    let k : StateFacts = facts c.self.inside.first.map c.self.inside.pass c.self.inside.map.map c.self.inside.work.runs c.self.inside.keeper.has_failed in
+    let k : StateFacts = facts c.self.inside.first.map c.self.inside.pass c.self.inside.map.map (runs_of c.self.inside.rooms) c.self.inside.keeper.has_failed in
     let fine : fault_in c.args.self.now c.args.base c.args.change ≡ None = search rules in
     let ok : IsAccepted k c.args.base c.args.change = rw (← c.self.view_is) at (accepted c.args.self.now c.args.base c.args.change fine) in
     let next = follows k c.self.inside.table c.args.base c.args.change c.in_ok-patch.step.value c.self.invariant.0 ok (rw c.prepare.ensures.same at c.in_ok-patch.ensures.ready.step) in (
@@ -199,7 +200,7 @@ invariant_of-self-in_err-kept g c =
 
 pub returns-in_err-kept-clause-stored : goal.returns-in_err-kept-clause-stored
 returns-in_err-kept-clause-stored g c =
-    let k : StateFacts = facts c.self.inside.first.map c.self.inside.pass c.self.inside.map.map c.self.inside.work.runs c.self.inside.keeper.has_failed in
+    let k : StateFacts = facts c.self.inside.first.map c.self.inside.pass c.self.inside.map.map (runs_of c.self.inside.rooms) c.self.inside.keeper.has_failed in
     let fine : fault_in c.args.self.now c.args.base c.args.change ≡ None = search rules in
     let ok : IsAccepted k c.args.base c.args.change = rw (← c.self.view_is) at (accepted c.args.self.now c.args.base c.args.change fine) in
     let next = follows k c.self.inside.table c.args.base c.args.change c.in_ok-patch.step.value c.self.invariant.0 ok (rw c.prepare.ensures.same at c.in_ok-patch.ensures.ready.step) in

@@ -1,4 +1,5 @@
 use Rattle.std.proofs.Common.{◌≡◌, ◌∙◌, ◌≤◌, ap, length, arith}
+use Rattle.pgtable.specs.Rooms.{runs_of}
 use Rattle.state.proofs.Journals.{epoch-kept}
 use Rattle.epochlog.specs.Epochs.{Line, IsRowSize}
 use Rattle.state.specs.States.{StateFacts, facts, max_epoch}
@@ -6,7 +7,7 @@ use Rattle.state.proofs.state.State.is_full.Goals as goal
 
 pub returns-clause-early : goal.returns-clause-early
 returns-clause-early g c =
-    let k : StateFacts = facts c.self.inside.first.map c.self.inside.pass c.self.inside.map.map c.self.inside.work.runs c.self.inside.keeper.has_failed in
+    let k : StateFacts = facts c.self.inside.first.map c.self.inside.pass c.self.inside.map.map (runs_of c.self.inside.rooms) c.self.inside.keeper.has_failed in
     let row : k.pass.row ≡ c.args.row.now = ap (λ (s : StateFacts). s.pass.row) c.self.view_is ∙ c.requires in
     let limits : IsRowSize k.pass.row.first c.capacity.result = rw row c.capacity.ensures.limits in
     let cells = ap (λ (l : Line). length l.cells) row in

@@ -1,6 +1,6 @@
 use Rattle.std.proofs.Common.{sym, refl, ◌∙◌}
 use mathlib.Core.Bool.{false≢true}
-use Rattle.pgtable.proofs.table.PgTable.prepare.Goals as goal
+use Rattle.pgtable.proofs.table.PgTable.prepare_in_one.Goals as goal
 
 pub new-requires-clause-is_source : goal.new-requires-clause-is_source
 new-requires-clause-is_source c = record {

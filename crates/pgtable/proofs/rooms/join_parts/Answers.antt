@@ -1,0 +1,38 @@
+use Rattle.std.proofs.Common.{◌≡◌, ◌∙◌, ◌+◌, sym, ap, refl, length, slice_index_or, IsSome, arith}
+use Rattle.grouptable.specs.Sets.{GroupSets}
+use Rattle.pgtable.specs.Rooms.{part_of}
+use Rattle.pgtable.specs.declared.rooms.Room.{Room}
+use Rattle.pgtable.proofs.Parts.{some_at, one_more, made_at, next_part, part_fits, part_few}
+use Rattle.pgtable.proofs.rooms.join_parts.Goals as goal
+
+pub add_sets-requires-clause-fits : goal.add_sets-requires-clause-fits
+add_sets-requires-clause-fits c =
+    let placing = c.args.placing.now in
+    let i = c.loop-room.room-index in
+    let room = c.room-item.result in
+    let is = some_at (slice_index_or c.args.rooms.now i room).made room.made c.in-Some.part (λ made. made.items ≡ part_of placing.map.now.map placing.pool i c.args.size) (c.requires.parts i room c.loop-room-test.true) (ap (λ (r : Room). r.made) (sym c.room-item.is)) c.in-Some.is in
+    let width = ap (λ (g : GroupSets). g.width) c.loop-room.invariant.sets in
+    rw (width, c.deref.ensures.value ∙ is) (part_fits placing.map.now.map placing.pool i c.args.size c.holds_together.ensures c.requires.there c.is_within_limits.ensures.groups_most)
+
+pub add_sets-requires-clause-few : goal.add_sets-requires-clause-few
+add_sets-requires-clause-few c =
+    let placing = c.args.placing.now in
+    let i = c.loop-room.room-index in
+    let room = c.room-item.result in
+    let is = some_at (slice_index_or c.args.rooms.now i room).made room.made c.in-Some.part (λ made. made.items ≡ part_of placing.map.now.map placing.pool i c.args.size) (c.requires.parts i room c.loop-room-test.true) (ap (λ (r : Room). r.made) (sym c.room-item.is)) c.in-Some.is in
+    let sets = ap (λ (g : GroupSets). g.sets) c.loop-room.invariant.sets in
+    rw (sets, c.deref.ensures.value ∙ is) (part_few placing.map.now.map placing.pool i c.args.size c.is_within_limits.ensures.groups_most)
+
+pub loop-room-preserved : goal.loop-room-preserved
+loop-room-preserved c =
+    let placing = c.args.placing.now in
+    let i = c.loop-room.room-index in
+    let room = c.room-item.result in
+    let is = some_at (slice_index_or c.args.rooms.now i room).made room.made c.in-Some.part (λ made. made.items ≡ part_of placing.map.now.map placing.pool i c.args.size) (c.requires.parts i room c.loop-room-test.true) (ap (λ (r : Room). r.made) (sym c.room-item.is)) c.in-Some.is in
+    let width = ap (λ (g : GroupSets). g.width) c.loop-room.invariant.sets in
+    let sets = ap (λ (g : GroupSets). g.sets) c.loop-room.invariant.sets in
+    let next = next_part placing.map.now.map placing.pool i c.args.size in
+    record {
+      sets = c.in_ok-add_sets.ensures ∙ rw (width, sets, c.deref.ensures.value ∙ is, next) refl;
+      all = λ k d inside. one_more (λ j. (e : Room) → IsSome (slice_index_or c.args.rooms.now j e).made) i (λ j less e. c.loop-room.invariant.all j e less) (λ e. made_at c.args.rooms.now i room e c.loop-room-test.true c.room-item.is (rw c.in-Some.is refl)) k inside d;
+    }
