@@ -189,6 +189,38 @@ def many_at_once(runs: Folder) -> Iterator[Any]:
         yield goal_row(f"one change: {name}", lambda: a_change(runs, stated, [named(value)], 1) / 1e3, "ms", goal)
 
 
+def without_pools(stated: Any) -> tuple[Any, str]:
+    """A map with the first of its pools alone, and the part of a change that brings the others."""
+    first, *others = stated["pools"]
+    return {**stated, "pools": [first]}, f'"new_pools":{json.dumps(others, separators=(",", ":"))}'
+
+
+def another_crush(stated: Any) -> str:
+    """The part of a change that gives the last OSD another weight in the CRUSH map."""
+    *buckets, last = stated["buckets"]
+    items = [*last["items"][:-1], [last["items"][-1][0], 2 * last["items"][-1][1]]]
+    crush = {"buckets": [*buckets, {**last, "items": items}], "rules": stated["rules"]}
+    return f'"new_crush":{json.dumps(crush, separators=(",", ":"))}'
+
+
+def longest_rows(runs: Folder) -> Iterator[Any]:
+    """Lines that evaluate all groups of a map, which no other session can ask or change meanwhile; and opening it,
+    beside a map of one group a pool. The goal is what four processors could make of it."""
+    most = wide_pools(64, 3, 4096, 256)
+    fewest, pools = without_pools(most)
+    one, wide = wide_pools(64, 3, 1, 256), wide_pools(40, 20)
+    for name, value, part in (
+        ("a reweight of one OSD, 1,048,576 groups of 256 pools", most, '"weight":[[0,32768]]'),
+        ("a reweight of one OSD, 65,536 groups of size 20 over 40 OSDs", wide, '"weight":[[0,32768]]'),
+        ("another CRUSH map, 1,048,576 groups of 256 pools", most, another_crush(most)),
+        ("255 pools of 4,096 groups that come", fewest, pools),
+        ("a pair for each of 1,048,576 groups", most, a_pair_each(most)),
+    ):
+        stated = runs.map(value)
+        yield goal_row(name, lambda: a_change(runs, stated, [part], 1) / 1e3, "ms", 1500)
+    yield goal_row("opening 1,048,576 groups of 256 pools", lambda: opened(runs, most) - opened(runs, one), "ms", 1500)
+
+
 def kept(runs: Folder) -> Any:
     """The bytes that a change takes in the journal."""
 
@@ -365,6 +397,8 @@ def main() -> None:
     path = program(__doc__)
     heading(f"Lawful input that is not ordinary (a run may take {LIMIT} seconds)")
     in_folder(path, lambda runs: table(GOALS, rows(runs)))
+    heading("Lines that hold the lock longest")
+    in_folder(path, lambda runs: table(GOALS, longest_rows(runs)))
 
 
 if __name__ == "__main__":
