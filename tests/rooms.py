@@ -1,0 +1,150 @@
+"""Maps whose groups are placed in threads: pools about the size from which they are, in maps about the number of groups
+from which there is more than one room.
+
+Each map is opened three times: on all processors that there are; on one; and with the first threads refused that the
+program asks for. The up set of each group and the groups of each OSD are those of model.py each time. How many threads
+the program asks for is told by a library that is loaded before it (refuse_threads.c).
+"""
+
+from __future__ import annotations
+
+import os
+import pathlib
+import shutil
+import subprocess
+import tempfile
+from typing import Any
+
+from tests import model
+from tests.cases import HERE, Case
+from tests.clusters import Json
+from tests.rows import MAPS, with_values, written
+
+OSDS, SECONDS = 5, 300
+# A map of fewer groups has one room, and so has a pool of fewer. There are as many rooms as processors, 16 at most.
+MANY, LARGE, MOST = 4096, 1024, 16
+# The processors that there are, the threads that are refused, and whether rooms get any.
+WAYS = (
+    ("on all processors", None, 0),
+    ("on one processor", 1, 0),
+    ("with threads refused", None, 7),
+)
+
+
+def a_map(sizes: tuple[int, ...]) -> Json:
+    """A map with pools of so many groups, over OSDs of which one is down and one half out."""
+    pools = [
+        {
+            "id": number,
+            "kind": "replicated",
+            "pg_num": groups,
+            "pgp_num": groups,
+            "rule": 0,
+            "size": 2,
+        }
+        for number, groups in enumerate(sizes, 1)
+    ]
+    osds = [
+        {
+            "exists": True,
+            "id": osd,
+            "up": osd != 4,
+            "weight": 32768 if osd == 2 else 65536,
+        }
+        for osd in range(OSDS)
+    ]
+    items = [[osd, 65536 * (1 + osd % 3)] for osd in range(OSDS)]
+    values: Any = {
+        "buckets/0/items": items,
+        "buckets/0/kind": "list",
+        "max_osd": OSDS,
+        "osds": osds,
+        "pools": pools,
+    }
+    return with_values(MAPS["one device"], values)
+
+
+def processors() -> int:
+    """The processors that a run may use, within the quota of its container."""
+    quota = pathlib.Path("/sys/fs/cgroup/cpu.max")
+    most, period = (quota.read_text() if quota.exists() else "max 100000").split()
+    allowed = len(os.sched_getaffinity(0))
+    return allowed if most == "max" else min(allowed, max(1, int(most) // int(period)))
+
+
+class Rooms(Case):
+    """Groups that are placed in threads."""
+
+    def library(self, folder: pathlib.Path) -> pathlib.Path:
+        """The library that counts and refuses threads, built into a folder."""
+        self.needs("gcc", shutil.which("gcc") is not None)
+        library = folder / "refuse_threads.so"
+        words = [
+            "gcc",
+            "-shared",
+            "-fPIC",
+            "-O1",
+            "-o",
+            library,
+            HERE / "refuse_threads.c",
+            "-ldl",
+        ]
+        subprocess.run(words, check=True)
+        return library
+
+    def opened(
+        self,
+        files: list[pathlib.Path],
+        library: pathlib.Path,
+        most: int | None,
+        refused: int,
+    ) -> tuple[str, str]:
+        """What a run answers, and a letter for each thread that it asks for."""
+        marks = files[0].parent / "threads"
+        marks.unlink(missing_ok=True)
+        given = {
+            "LD_PRELOAD": str(library),
+            "REFUSE_THREADS": str(refused),
+            "THREADS": str(marks),
+        }
+        words: list[Any] = [self.program, *files]
+        if most is not None:
+            words = ["taskset", "-c", str(min(os.sched_getaffinity(0))), *words]
+        done = subprocess.run(
+            words,
+            env={**os.environ, **given},
+            timeout=SECONDS,
+            capture_output=True,
+            text=True,
+        )
+        self.assertEqual((done.returncode, done.stderr), (0, ""))
+        return done.stdout, marks.read_text() if marks.exists() else ""
+
+    def asked_for(self, sizes: tuple[int, ...], most: int | None) -> int:
+        """How many threads a run asks for: one for its session, and for each large pool as many as there are rooms but
+        one, which is placed in the thread that opens the map."""
+        rooms = min(most or MOST, processors(), MOST) if sum(sizes) >= MANY else 1
+        return 1 + (rooms - 1) * sum(1 for groups in sizes if groups >= LARGE)
+
+    def test_sizes(self) -> None:
+        """The groups of each map are where the model has them, however many threads place them."""
+        self.needs("taskset", shutil.which("taskset") is not None)
+        for sizes in ((1023, 1024, 2049), (4095,), (3, 1023, 3070)):
+            value = a_map(sizes)
+            lines = [f"up {number}.{group:x}" for number, groups in enumerate(sizes, 1) for group in range(groups)]
+            lines += [f"groups {osd}" for osd in range(OSDS)]
+            wanted = "".join(line + "\n" for line in ["session 1", *model.answers(value, lines)])
+            with tempfile.TemporaryDirectory() as name:
+                folder = pathlib.Path(name)
+                library, files = self.library(folder), [
+                    folder / "map",
+                    folder / "script",
+                ]
+                files[0].write_text(written(value))
+                files[1].write_text("".join(line + "\n" for line in lines))
+                for way, most, refused in WAYS:
+                    with self.subTest(f"pools of {sizes} groups {way}"):
+                        asked = self.asked_for(sizes, most)
+                        answers, threads = self.opened(files, library, most, min(refused, asked - 1))
+                        self.assertEqual(answers, wanted)
+                        self.assertEqual(len(threads), asked)
