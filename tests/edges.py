@@ -13,7 +13,7 @@ import sys
 from collections.abc import Iterator
 from typing import Any
 
-from rekhuso.command_line import main
+from rekhuso.command_line import main, parser
 
 from tests.cases import EXAMPLE
 from tests.clusters import STOCK, Json, copied
@@ -79,6 +79,33 @@ def cluster_files() -> dict[str, Json]:
         "pgs": {"pg_stats": [{"pgid": group, "stat_sum": stat} for group in groups]},
         "osds": {"nodes": [{"id": own["osd"], "kb": 9, "kb_used": 1, "kb_avail": 8} for own in osd["osds"]]},
     }
+
+
+# Commands with an option to whose end a number is put.
+NUMBERED: list[list[Any]] = [
+    ["plan", EXAMPLE, "--max="],
+    ["plan", EXAMPLE, "--until="],
+    ["plan", EXAMPLE, "--deviation="],
+    ["plan", EXAMPLE, "--alone", "--deviation="],
+    ["plan", EXAMPLE, "--to", "parts", "--batch="],
+    ["plan", EXAMPLE, "--to", "parts", "--batch", "5", "--osd-most="],
+    ["plan", EXAMPLE, "--to", "parts", "--batch", "5", "--host-most="],
+    ["next", EXAMPLE, EXAMPLE, EXAMPLE, "--pgs", EXAMPLE, "--most="],
+    ["explain", EXAMPLE, ""],
+    ["history", EXAMPLE, "--at="],
+    ["together", EXAMPLE, EXAMPLE, EXAMPLE, "--seconds="],
+    ["whatif", EXAMPLE, "--out="],
+    ["whatif", EXAMPLE, "--each="],
+    ["whatif", EXAMPLE, "--weight=3="],
+    ["whatif", EXAMPLE, "--weight", "=1"],
+]
+
+
+def number_options() -> set[str]:
+    """The options whose words are read as numbers."""
+    commands = next(action.choices for action in parser()._actions if isinstance(action.choices, dict))
+    actions = [action for own in commands.values() for action in own._actions]
+    return {option for action in actions if action.type for option in action.option_strings} - {"--program"}
 
 
 class Edges(ToolCase):
@@ -183,22 +210,8 @@ class Edges(ToolCase):
     def test_numbers_of_options(self) -> None:
         """Each option that takes a number, a group or an OSD, at its edges: one line, and a status that is not 0."""
         edges = ("1e9999999", "-1e9999999", "1e308", DIGITS, f"-{DIGITS}", "1/0", "nan", "")
-        for words in (
-            ["plan", EXAMPLE, "--max="],
-            ["plan", EXAMPLE, "--until="],
-            ["plan", EXAMPLE, "--deviation="],
-            ["plan", EXAMPLE, "--alone", "--deviation="],
-            ["plan", EXAMPLE, "--to", "parts", "--batch="],
-            ["plan", EXAMPLE, "--to", "parts", "--batch", "5", "--osd-most="],
-            ["plan", EXAMPLE, "--to", "parts", "--batch", "5", "--host-most="],
-            ["next", EXAMPLE, EXAMPLE, EXAMPLE, "--pgs", EXAMPLE, "--most="],
-            ["explain", EXAMPLE, ""],
-            ["history", EXAMPLE, "--at="],
-            ["whatif", EXAMPLE, "--out="],
-            ["whatif", EXAMPLE, "--each="],
-            ["whatif", EXAMPLE, "--weight=3="],
-            ["whatif", EXAMPLE, "--weight", "=1"],
-        ):
+        self.assertLessEqual(number_options(), {f"{word}".rstrip("=") for words in NUMBERED for word in words})
+        for words in NUMBERED:
             for edge in edges:
                 with self.subTest(words=words[2:], edge=edge[:20]):
                     last = f"{edge}{words[-1]}" if words[-1] == "=1" else f"{words[-1]}{edge}"

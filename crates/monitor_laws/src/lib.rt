@@ -4,11 +4,11 @@
 
 ghost use Rattle.monitor_laws.specs.Law.{HasEvents, HasOneHistory};
 
-/// A law: for every number of seats up to 1,024 and every interleaving of their steps, no writer holds the lock beside
-/// another holder; whenever no writer holds it, the map is the first map with the sealed epochs applied in order
-/// without gaps, each stored up set is the one that its rule and exceptions define, and the index and counts by OSD are
-/// exactly theirs; all looks and changes, by whomever, are of one history; and what each follower has read without the
-/// lock begins it.
+/// A law over every number of seats up to 1,024 and every interleaving of their steps. No writer holds the lock beside
+/// another holder. Whenever no writer holds it, the map is the first map with the sealed epochs applied in order
+/// without gaps; each stored up set is the one that its rule and exceptions define, and the index and counts by OSD are
+/// exactly theirs. All looks and changes, by whomever, are of one history. What each follower has read without the lock
+/// begins it.
 pub fn one_history()
     ensures { HasOneHistory }
 {}
