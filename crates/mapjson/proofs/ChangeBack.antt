@@ -1,11 +1,16 @@
--- What is written of a change: it has no float, nests six deep at most, and states the change's parts.
-use Rattle.std.proofs.Common.{◌≡◌, ℕ, ◌≤◌, List, [], ◌∷◌, ◌++◌, false, Option, Some, None, Ok, Err, refl, sym, ap, subst, ◌∙◌, arith}
+-- What is written of a change: it nests six deep at most, and states the change's parts.
+use Rattle.std.proofs.Common.{◌≡◌, ℕ, ◌≤◌, List, [], ◌∷◌, ◌++◌, Option, Some, None, Ok, Err, refl, sym, ap, subst, ◌∙◌, arith, append_assoc}
 use Rattle.std.specs.Prelude.{⊤}
 use Rattle.std.specs.Option.{option_map_or}
 use Rattle.std.specs.Str.{IsUtf8}
-use Rattle.serde_json.specs.Data.{Data, depth, members_depth}
+use Rattle.serde_json.specs.Data.{Data, no_members, depth, members_depth}
 use Rattle.serde_json.specs.Read.{read, max_depth}
-use Rattle.serde_json.specs.Written.{has_float, compact_text}
+use Rattle.json.specs.Print.{print}
+use Rattle.json.specs.Token.{Token, begin_object, end_object}
+use Rattle.serde_json.proofs.Texts.{print-outline}
+use Rattle.mapjson.specs.Pieces.{tokens_of, member_tokens, IsReadBack, AreReadBack}
+use Rattle.mapjson.proofs.Pieces.{object_read, both_read, member_tokens-append, members_tokens-all, enclosed}
+use Rattle.mapjson.proofs.Readable.{built}
 use Rattle.mapparts.specs.declared.parts.GrowPart.{GrowPart}
 use Rattle.mapparts.specs.declared.parts.CrushParts.{CrushParts}
 use Rattle.mapparts.specs.declared.pg_parts.PgParts.{PgParts}
@@ -21,65 +26,11 @@ use Rattle.mapjson.specs.Written.{number_data, list_data, members, object_of, bu
 use Rattle.mapjson.specs.PartsOfChange.{change_parts}
 use Rattle.mapjson.specs.WrittenChanges.{reweight_data, growth_data, crush_data, crush_member, first_members, last_members, change_data, HasNamed, written_change}
 use Rattle.mapjson.proofs.ReadBack.{number_back, entries_back, list_back, bucket_back, rule_back, pool_back, pair_back, exceptions_back}
-use Rattle.mapjson.proofs.Shallow.{number_whole, list_whole, bucket_whole, rule_whole, pool_whole, pair_whole, exception_whole, number_flat, list_flat, bucket_flat, rule_flat, pool_flat, pair_flat, exception_flat}
+use Rattle.mapjson.proofs.Shallow.{number_flat, list_flat, bucket_flat, rule_flat, pool_flat, pair_flat, exception_flat}
 
 -- a change's value, by its CRUSH map
 abbrev pub with_member_of : RawChange → Option CrushParts → Data
 with_member_of c crush = object_of (first_members c ++ (crush_member crush ++ last_members c))
-
--- ---- no floats
-
--- a reweight holds no float
-reweight_whole : (w : RawReweight) → has_float (reweight_data w) ≡ false
-reweight_whole w = rw (number_whole w.osd, number_whole w.weight)
-
--- a growth holds no float
-growth_whole : (g : GrowPart) → has_float (growth_data g) ≡ false
-growth_whole g = rw (number_whole g.pool, number_whole g.pg_num, number_whole g.pgp_num)
-
--- a group holds no float
-group_whole : (g : PgParts) → has_float (group_data g) ≡ false
-group_whole g = refl
-
--- a CRUSH map holds no float
-crush_whole : (k : CrushParts) → has_float (crush_data k) ≡ false
-unfolding crush_data
-crush_whole k = rw (list_whole bucket_data bucket_whole k.buckets, list_whole rule_data rule_whole k.rules)
-
--- a change holds none, with a CRUSH map or without
-whole_with : (c : RawChange) (crush : Option CrushParts) → has_float (with_member_of c crush) ≡ false
-whole_with c None = rw (
-  number_whole c.base,
-  list_whole number_data number_whole c.down,
-  list_whole growth_data growth_whole c.grow_pool,
-  list_whole (exception_data pair_data) (exception_whole pair_data pair_whole) c.new_items,
-  list_whole pool_data pool_whole c.new_pools,
-  list_whole (exception_data number_data) (exception_whole number_data number_whole) c.new_upmap,
-  list_whole group_data group_whole c.old_items,
-  list_whole number_data number_whole c.old_pools,
-  list_whole group_data group_whole c.old_upmap,
-  list_whole number_data number_whole c.up,
-  list_whole reweight_data reweight_whole c.weight,
-)
-whole_with c (Some k) = rw (
-  number_whole c.base,
-  list_whole number_data number_whole c.down,
-  list_whole growth_data growth_whole c.grow_pool,
-  crush_whole k,
-  list_whole (exception_data pair_data) (exception_whole pair_data pair_whole) c.new_items,
-  list_whole pool_data pool_whole c.new_pools,
-  list_whole (exception_data number_data) (exception_whole number_data number_whole) c.new_upmap,
-  list_whole group_data group_whole c.old_items,
-  list_whole number_data number_whole c.old_pools,
-  list_whole group_data group_whole c.old_upmap,
-  list_whole number_data number_whole c.up,
-  list_whole reweight_data reweight_whole c.weight,
-)
-
--- so its text is exact
-change_whole : (c : RawChange) → has_float (change_data c) ≡ false
-unfolding change_data
-change_whole c = whole_with c c.new_crush
 
 -- ---- how deep
 
@@ -197,12 +148,44 @@ pub change_back : (c : RawChange) → HasNamed c → stated_change (change_data 
 unfolding change_data
 change_back c named = back_with c c.new_crush named
 
+-- ---- its keys
+
+-- the members of a change stand in the order of their keys, with a CRUSH map or without
+order_with : (c : RawChange) (crush : Option CrushParts) → let ms = first_members c ++ (crush_member crush ++ last_members c) in built no_members (members ms) ≡ members ms
+order_with c None = refl
+order_with c (Some k) = refl
+
+-- so a change is read as itself where its members are
+pub change_read : (c : RawChange) → AreReadBack (first_members c) → AreReadBack (crush_member c.new_crush) → AreReadBack (last_members c) → IsReadBack (change_data c)
+unfolding change_data
+change_read c first crush last =
+    object_read (first_members c ++ (crush_member c.new_crush ++ last_members c)) (both_read (first_members c) _ first (both_read (crush_member c.new_crush) (last_members c) crush last)) (order_with c c.new_crush)
+
+-- ---- its tokens
+
+-- the tokens of a change are those of its members
+pub change_tokens : (c : RawChange) (ts : List Token)
+    → ((((ts ++ begin_object ∷ []) ++ member_tokens (first_members c)) ++ member_tokens (crush_member c.new_crush)) ++ member_tokens (last_members c)) ++ end_object ∷ []
+    ≡ ts ++ tokens_of (change_data c)
+unfolding change_data
+change_tokens c ts =
+    let front = ts ++ begin_object ∷ [] in
+    let first = member_tokens (first_members c) in
+    let crush = member_tokens (crush_member c.new_crush) in
+    let last = member_tokens (last_members c) in
+    let rest = crush_member c.new_crush ++ last_members c in
+    let all : member_tokens (first_members c ++ rest) ≡ first ++ (crush ++ last) =
+    member_tokens-append (first_members c) rest ∙ ap (λ us. first ++ us) (member_tokens-append (crush_member c.new_crush) (last_members c)) in
+    ap (λ us. us ++ end_object ∷ []) (append_assoc (front ++ first) crush last ∙ append_assoc front first (crush ++ last) ∙ ap (λ us. front ++ us) (sym all))
+    ∙ enclosed ts (member_tokens (first_members c ++ rest)) begin_object end_object
+    ∙ ap (λ us. ts ++ begin_object ∷ us) (sym (members_tokens-all (first_members c ++ rest)))
+
 -- ---- its text
 
--- a value of a change's parts has the change's text
-pub is_written_change : (base : ℕ) (c : ChangeParts) (d : Data) (bytes : List ℕ) → d ≡ change_data (change_parts base c) → (has_float d ≡ false → bytes ≡ compact_text d) → bytes ≡ written_change base c
+-- the tokens of a change's parts make the change's text
+pub is_written_change : (base : ℕ) (c : ChangeParts) (bytes : List ℕ) (ts : List Token) → bytes ≡ print ts → ts ≡ tokens_of (change_data (change_parts base c)) → bytes ≡ written_change base c
 unfolding written_change
-is_written_change base c d bytes is text = text (ap has_float is ∙ change_whole (change_parts base c)) ∙ ap compact_text is
+is_written_change base c bytes ts text same = text ∙ ap print same ∙ print-outline (change_data (change_parts base c))
 
 -- a text that is read as the value of some parts states them, where their groups are read back
 pub states_change_parts : (c : RawChange) (d : Data) (bytes : List ℕ) → HasNamed c → d ≡ change_data c → IsUtf8 bytes → (depth d ≤ max_depth → read bytes ≡ Some d) → stated_by stated_change bytes ≡ Ok c

@@ -15,3 +15,5 @@ pub mod ReadableChanges
 pub mod OwnValues
 pub mod OwnOsds
 pub mod OneText
+pub mod Pieces
+pub mod Objects

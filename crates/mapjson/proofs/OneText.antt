@@ -1,5 +1,5 @@
 -- Of two maps, or two changes, whose texts state their own parts: where the texts are the same, they are.
-use Rattle.std.proofs.Common.{◌≡◌, ◌∙◌, ℕ, suc, pos, nat_abs, List, [], ◌∷◌, map, length, Option, Some, None, Result, Ok, refl, sym, ap, arith}
+use Rattle.std.proofs.Common.{◌≡◌, ◌∙◌, ℕ, suc, pos, nat_abs, List, [], ◌∷◌, map, Option, Some, None, Result, Ok, refl, sym, ap, arith}
 use Rattle.std.specs.Prelude.{option_map}
 use Rattle.std.specs.List.{range_with_len, All}
 use Rattle.refusal.specs.declared.refused.Refusal.{Refusal}

@@ -100,7 +100,7 @@ mutual
 
 mutual
   -- what is written of a value nests as deep as the value
-  depth-outline : (d : Data) → tree.depth (outline d) ≡ depth d
+  pub depth-outline : (d : Data) → tree.depth (outline d) ≡ depth d
   depth-outline null = refl
   depth-outline (boolean b) = refl
   depth-outline (number n) = refl

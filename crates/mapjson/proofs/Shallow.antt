@@ -1,7 +1,6 @@
--- What is written of a map has no float, and nests five deep at most.
-use Rattle.std.proofs.Common.{◌≡◌, ℕ, suc, ◌≤◌, ℤ, pos, negsuc, List, [], ◌∷◌, false, refl, arith}
+-- What is written of a map nests five deep at most.
+use Rattle.std.proofs.Common.{ℕ, suc, ◌≤◌, ℤ, List, [], ◌∷◌, arith}
 use Rattle.serde_json.specs.Data.{Data, depth}
-use Rattle.serde_json.specs.Written.{has_float}
 use Rattle.mapparts.specs.declared.parts.MapParts.{MapParts}
 use Rattle.mapparts.specs.declared.parts.BucketPart.{BucketPart}
 use Rattle.mapparts.specs.declared.parts.ItemPart.{ItemPart}
@@ -13,79 +12,6 @@ use Rattle.mapparts.specs.declared.parts.OsdPart.{OsdPart}
 use Rattle.mapparts.specs.declared.parts.ExceptionPart.{ExceptionPart}
 use Rattle.mapparts.specs.declared.parts.PairPart.{PairPart}
 use Rattle.mapjson.specs.Written.{number_data, list_data, item_data, bucket_data, step_data, rule_data, pool_data, osd_data, pair_data, exception_data, map_data}
-
--- ---- no floats
-
--- a number that is written is no float
-pub number_whole : (z : ℤ) → has_float (number_data z) ≡ false
-number_whole (pos n) = refl
-number_whole (negsuc n) = refl
-
--- a list holds no float where none of its entries does
-pub list_whole : {X : Type 0} (entry : X → Data) → ((x : X) → has_float (entry x) ≡ false) → (xs : List X) → has_float (list_data entry xs) ≡ false
-list_whole entry h [] = refl
-list_whole entry h (x ∷ xs) = rw (h x) (list_whole entry h xs)
-
--- an item holds no float
-item_whole : (i : ItemPart) → has_float (item_data i) ≡ false
-item_whole i = rw (number_whole i.id, number_whole i.weight)
-
--- a bucket holds no float
-pub bucket_whole : (b : BucketPart) → has_float (bucket_data b) ≡ false
-unfolding bucket_data
-bucket_whole b = rw (number_whole b.id, list_whole item_data item_whole b.items, number_whole b.level)
-
--- a step holds no float
-step_whole : (s : StepPart) → has_float (step_data s) ≡ false
-unfolding step_data
-step_whole (SetChooseTries tries) = rw (number_whole tries)
-step_whole (SetChooseleafTries tries) = rw (number_whole tries)
-step_whole (SetChooseleafVaryR tries) = rw (number_whole tries)
-step_whole (SetChooseleafStable tries) = rw (number_whole tries)
-step_whole (Take id) = rw (number_whole id)
-step_whole (Choose c) = rw (number_whole c.count, number_whole c.level)
-step_whole Emit = refl
-
--- a rule holds no float
-pub rule_whole : (r : RulePart) → has_float (rule_data r) ≡ false
-unfolding rule_data
-rule_whole r = rw (number_whole r.id, list_whole step_data step_whole r.steps)
-
--- a pool holds no float
-pub pool_whole : (p : PoolPart) → has_float (pool_data p) ≡ false
-unfolding pool_data
-pool_whole p = rw (number_whole p.id, number_whole p.pg_num, number_whole p.pgp_num, number_whole p.rule, number_whole p.size)
-
--- an OSD holds no float
-osd_whole : (o : OsdPart) → has_float (osd_data o) ≡ false
-unfolding osd_data
-osd_whole o = rw (number_whole o.id, number_whole o.weight)
-
--- a pair holds no float
-pub pair_whole : (p : PairPart) → has_float (pair_data p) ≡ false
-pair_whole p = rw (number_whole p.from, number_whole p.to)
-
--- an exception holds no float where none of its entries does
-pub exception_whole : {X : Type 0} (entry : X → Data) → ((x : X) → has_float (entry x) ≡ false) → (e : ExceptionPart X) → has_float (exception_data entry e) ≡ false
-unfolding exception_data
-exception_whole entry h e = rw (list_whole entry h e.entries)
-
--- the parts of a map hold no float, so that their text is exact
-pub map_whole : (p : MapParts) → has_float (map_data p) ≡ false
-unfolding map_data
-map_whole p = rw (
-  list_whole bucket_data bucket_whole p.buckets,
-  number_whole p.epoch,
-  number_whole p.max_osd,
-  list_whole osd_data osd_whole p.osds,
-  list_whole (exception_data number_data) (exception_whole number_data number_whole) p.pg_upmap,
-  list_whole (exception_data pair_data) (exception_whole pair_data pair_whole) p.pg_upmap_items,
-  list_whole pool_data pool_whole p.pools,
-  list_whole rule_data rule_whole p.rules,
-  number_whole p.version,
-)
-
--- ---- how deep
 
 -- a list nests one level more than its entries
 pub list_flat : {X : Type 0} (n : ℕ) (entry : X → Data) → ((x : X) → depth (entry x) ≤ n) → (xs : List X) → depth (list_data entry xs) ≤ suc n

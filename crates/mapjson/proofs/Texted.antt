@@ -1,10 +1,12 @@
 -- The text that is written of a map, and what it is read as.
-use Rattle.std.proofs.Common.{◌≡◌, ℕ, ◌≤◌, List, false, Some, Ok, Err, sym, ap, subst, ◌∙◌, arith}
+use Rattle.std.proofs.Common.{◌≡◌, ℕ, ◌≤◌, List, Some, Ok, Err, sym, ap, subst, ◌∙◌, arith}
 use Rattle.std.specs.Option.{option_map_or}
 use Rattle.std.specs.Str.{IsUtf8}
+use Rattle.json.specs.Print.{print}
+use Rattle.json.specs.Token.{Token}
 use Rattle.serde_json.specs.Data.{Data, depth}
 use Rattle.serde_json.specs.Read.{read, max_depth}
-use Rattle.serde_json.specs.Written.{has_float, compact_text}
+use Rattle.serde_json.proofs.Texts.{print-outline}
 use Rattle.mapparts.specs.declared.parts.MapParts.{MapParts}
 use Rattle.refusal.specs.declared.refused.Refusal.TheVariants.{BadJson, BadField}
 use Rattle.osdmap.specs.Maps.{ClusterMap}
@@ -12,14 +14,15 @@ use Rattle.osdmap.specs.PartsOf.{parts_of}
 use Rattle.jsonstream.specs.Json.{stated_by}
 use Rattle.partjson.specs.StatedMaps.{in_its_version, stated_map}
 use Rattle.mapjson.specs.Written.{AreNamed, map_data, written}
+use Rattle.mapjson.specs.Pieces.{tokens_of}
 use Rattle.jsonstream.proofs.Texts.{json_of_some}
-use Rattle.mapjson.proofs.Shallow.{map_whole, map_flat}
+use Rattle.mapjson.proofs.Shallow.{map_flat}
 use Rattle.mapjson.proofs.ReadBack.{map_back}
 
--- a value of a map's parts has the map's text
-pub is_written : (m : ClusterMap) (d : Data) (bytes : List ℕ) → d ≡ map_data (parts_of m) → (has_float d ≡ false → bytes ≡ compact_text d) → bytes ≡ written m
+-- the tokens of a map's parts make the map's text
+pub is_written : (m : ClusterMap) (bytes : List ℕ) (ts : List Token) → bytes ≡ print ts → ts ≡ tokens_of (map_data (parts_of m)) → bytes ≡ written m
 unfolding written
-is_written m d bytes is text = text (ap has_float is ∙ map_whole (parts_of m)) ∙ ap compact_text is
+is_written m bytes ts text same = text ∙ ap print same ∙ print-outline (map_data (parts_of m))
 
 -- a text that is read as the value of some parts states them, where their groups are read back
 pub states_parts : (p : MapParts) (d : Data) (bytes : List ℕ) → AreNamed p.pg_upmap → AreNamed p.pg_upmap_items → in_its_version p ≡ Some p → d ≡ map_data p → IsUtf8 bytes → (depth d ≤ max_depth → read bytes ≡ Some d) → stated_by stated_map bytes ≡ Ok p

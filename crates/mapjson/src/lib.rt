@@ -3,7 +3,7 @@
 //! - `change`: the change that the stated parts of one stand for, and why there is none
 //! - `change/limits`, `change/within`: the limits of stated parts, and the change of parts within them
 //! - `loads`: what OSDs carry, of the parts that a text states
-//! - `written`, `written/value`: what is written of maps and changes, as JSON values
+//! - `written`, `written/value`: what is written of maps and changes, token by token into their text
 //! - `written/forest`, `written/pools`, `written/exceptions`: of forests and rules, of pools and what they grow to, of
 //!   groups and their exceptions
 //! - `written/map`, `written/change`: of a map, and of a change with its base
@@ -30,7 +30,8 @@ mod written;
 
 use crate::change::change_within;
 use crate::loads::{list_loads, parse_loads};
-use crate::written::{ToJson, write_parts};
+use crate::written::{WriteJson, write_parts};
+use json::Writer;
 use mapparts::{MapParts, Profile};
 use maptypes::Change;
 use osdmap::OsdMap;
@@ -129,8 +130,9 @@ pub fn write_map(alloc: Global, map: &OsdMap) -> Result<Vec<u8>, Memory>
     ensures utf8 { IfOk result (λ bytes. IsUtf8 bytes.items) }
     ensures reads_back { IfOk result (λ bytes. stated_by stated_map bytes.items ≡ Ok (parts_of map.now.map)) }
 {
-    let value = map.to_json(alloc)?;
-    Ok(value.to_vec(alloc)?)
+    let mut out = Writer::new(Vec::new(alloc));
+    map.write_json(alloc, &mut out)?;
+    Ok(out.into_inner())
 }
 
 /// The text of a change with the epoch to which it applies: compact JSON, all keys in byte order, also those of empty
@@ -146,6 +148,7 @@ pub fn write_change(alloc: Global, base: u64, change: &Change) -> Result<Vec<u8>
     ensures reads_back { IfOk result (λ bytes.
         stated_by stated_change bytes.items ≡ Ok (change_parts base change.now)) }
 {
-    let value = write_parts(alloc, base, change.parts())?;
-    Ok(value.to_vec(alloc)?)
+    let mut out = Writer::new(Vec::new(alloc));
+    write_parts(alloc, &mut out, base, change.parts())?;
+    Ok(out.into_inner())
 }

@@ -1,4 +1,4 @@
-//! What is written of maps and changes, as JSON values.
+//! What is written of maps and changes, token by token.
 
 mod change;
 mod exceptions;
@@ -8,4 +8,4 @@ mod pools;
 mod value;
 
 pub(crate) use change::write_parts;
-pub(crate) use value::ToJson;
+pub(crate) use value::WriteJson;

@@ -1,66 +1,97 @@
 //! What is written of a change.
 
-ghost use Rattle.std.specs.Prelude.{◌≡◌, IfOk, OnOk, option_map};
-ghost use Rattle.serde_json.specs.View.{view, members_view};
+ghost use Rattle.std.specs.Prelude.{◌≡◌, ◌++◌, OnOk, option_map};
 ghost use Rattle.partjson.specs.declared.change.RawReweight.{RawReweight};
 ghost use Rattle.mapjson.specs.PartsOfChange.{crush_parts, reweight_part, change_parts};
-ghost use Rattle.mapjson.specs.WrittenChanges.{reweight_data, with_crush, change_data, HasNamed};
+ghost use Rattle.mapjson.specs.WrittenChanges.{reweight_data, crush_member, first_members, last_members, change_data, HasNamed};
+ghost use Rattle.mapjson.specs.Pieces.{tokens_of, member_tokens, IsReadBack, AreReadBack};
 
-use crate::written::value::{ToJson, put_list};
+use crate::written::value::{WriteJson, epoch_member, integer, list_member};
+use json::Writer;
 use maptypes::{ChangeParts, CrushMap, Reweight};
-use serde_json::{Map, Value, json, put};
 use std::alloc::{AllocError, Global};
 
-impl ToJson for Reweight {
+impl WriteJson for Reweight {
     ghost Part = { RawReweight };
 
     ghost part = { reweight_part };
 
     ghost written = { reweight_data };
 
-    fn to_json(&self, alloc: Global) -> Result<Value, AllocError> {
-        json!(in alloc; [self.osd, self.weight])
+    fn write_json(&self, _alloc: Global, out: &mut Writer) -> Result<(), AllocError> {
+        out.begin_array()?;
+        integer(out, i64::from(self.osd))?;
+        integer(out, i64::from(self.weight))?;
+        out.end_array()
     }
 }
 
-/// Puts what is written of a CRUSH map into an object, where there is one.
-fn put_crush(
-    members: &mut Map<String, Value>,
+/// Writes the members before that of a CRUSH map.
+fn first_members(
     alloc: Global,
-    crush: &Option<CrushMap>,
+    out: &mut Writer,
+    base: u64,
+    parts: &ChangeParts,
 ) -> Result<(), AllocError>
-    ensures { OnOk result (members_view members.new.entries
-        ≡ with_crush (option_map crush_parts crush.now) (members_view members.old.entries)) }
+    ensures tokens { OnOk result (out.new.tokens
+        ≡ out.old.tokens ++ member_tokens (first_members (change_parts base parts.now))) }
+    ensures before { out.new.before ≡ out.old.before }
+    ensures back { OnOk result (AreReadBack (first_members (change_parts base parts.now))) }
+{
+    epoch_member(out, "base", base)?;
+    list_member(alloc, out, "down", &parts.down)?;
+    list_member(alloc, out, "grow_pool", &parts.grow_pool)
+}
+
+/// Writes the member of a CRUSH map, where there is one.
+fn crush_member(alloc: Global, out: &mut Writer, crush: &Option<CrushMap>) -> Result<(), AllocError>
+    ensures tokens { OnOk result (out.new.tokens
+        ≡ out.old.tokens ++ member_tokens (crush_member (option_map crush_parts crush.now))) }
+    ensures before { out.new.before ≡ out.old.before }
+    ensures back { OnOk result (AreReadBack (crush_member (option_map crush_parts crush.now))) }
 {
     let Some(crush) = crush else {
         return Ok(());
     };
-    let value = crush.to_json(alloc)?;
-    put(members, alloc, "new_crush", value)
+    out.key("new_crush")?;
+    crush.write_json(alloc, out)
 }
 
-/// What is written of a change with its base: each list, and the CRUSH map where there is one.
+/// Writes the members behind it.
+fn last_members(alloc: Global, out: &mut Writer, parts: &ChangeParts) -> Result<(), AllocError>
+    ensures tokens { OnOk result (out.new.tokens
+        ≡ out.old.tokens ++ member_tokens (last_members (change_parts 0 parts.now))) }
+    ensures before { out.new.before ≡ out.old.before }
+    ensures back { OnOk result (AreReadBack (last_members (change_parts 0 parts.now))) }
+    ensures named { OnOk result (HasNamed (change_parts 0 parts.now)) }
+{
+    list_member(alloc, out, "new_items", &parts.new_items)?;
+    list_member(alloc, out, "new_pools", &parts.new_pools)?;
+    list_member(alloc, out, "new_upmap", &parts.new_upmap)?;
+    list_member(alloc, out, "old_items", &parts.old_items)?;
+    list_member(alloc, out, "old_pools", &parts.old_pools)?;
+    list_member(alloc, out, "old_upmap", &parts.old_upmap)?;
+    list_member(alloc, out, "up", &parts.up)?;
+    list_member(alloc, out, "weight", &parts.weight)
+}
+
+/// Writes a change with its base: each list, and the CRUSH map where there is one.
 #[tactic(auto, unfolding(crate::specs::WrittenChanges::change_data))]
 pub(crate) fn write_parts(
     alloc: Global,
+    out: &mut Writer,
     base: u64,
     parts: &ChangeParts,
-) -> Result<Value, AllocError>
-    ensures value { IfOk result (λ v. view v ≡ change_data (change_parts base parts.now)) }
-    ensures named { IfOk result (λ _. HasNamed (change_parts base parts.now)) }
+) -> Result<(), AllocError>
+    ensures tokens { OnOk result (out.new.tokens
+        ≡ out.old.tokens ++ tokens_of (change_data (change_parts base parts.now))) }
+    ensures before { out.new.before ≡ out.old.before }
+    ensures back { OnOk result (IsReadBack (change_data (change_parts base parts.now))) }
+    ensures named { OnOk result (HasNamed (change_parts base parts.now)) }
 {
-    let mut members = Map::new(alloc);
-    put(&mut members, alloc, "base", Value::from(base))?;
-    put_list(&mut members, alloc, "down", &parts.down)?;
-    put_list(&mut members, alloc, "grow_pool", &parts.grow_pool)?;
-    put_crush(&mut members, alloc, &parts.new_crush)?;
-    put_list(&mut members, alloc, "new_items", &parts.new_items)?;
-    put_list(&mut members, alloc, "new_pools", &parts.new_pools)?;
-    put_list(&mut members, alloc, "new_upmap", &parts.new_upmap)?;
-    put_list(&mut members, alloc, "old_items", &parts.old_items)?;
-    put_list(&mut members, alloc, "old_pools", &parts.old_pools)?;
-    put_list(&mut members, alloc, "old_upmap", &parts.old_upmap)?;
-    put_list(&mut members, alloc, "up", &parts.up)?;
-    put_list(&mut members, alloc, "weight", &parts.weight)?;
-    Ok(Value::Object(members))
+    out.begin_object()?;
+    first_members(alloc, out, base, parts)?;
+    crush_member(alloc, out, &parts.new_crush)?;
+    last_members(alloc, out, parts)?;
+    out.end_object()
 }

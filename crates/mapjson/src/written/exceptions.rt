@@ -6,13 +6,13 @@ ghost use Rattle.mapparts.specs.declared.pg_parts.PgParts.{PgParts};
 ghost use Rattle.osdmap.specs.PartsOf.{pg_part, pair_part, exception_part};
 ghost use Rattle.mapjson.specs.Written.{IsNamed, group_data, pair_data, exception_data};
 
-use crate::written::value::{ToJson, list};
+use crate::written::value::{WriteJson, integer, list};
+use json::Writer;
 use maptypes::pg_text::group_text_is_read_back;
 use maptypes::{Blank, Exception, Pair, Pg};
-use serde_json::{Value, json};
 use std::alloc::{AllocError, Global};
 
-impl ToJson for Pg {
+impl WriteJson for Pg {
     ghost Part = { PgParts };
 
     ghost part = { pg_part };
@@ -21,26 +21,29 @@ impl ToJson for Pg {
 
     ghost named = { λ g. IsNamed (pg_part g) };
 
-    fn to_json(&self, alloc: Global) -> Result<Value, AllocError> {
+    fn write_json(&self, alloc: Global, out: &mut Writer) -> Result<(), AllocError> {
         group_text_is_read_back(self.pool, self.number);
         let text = format!(in alloc; "{}", self)?;
-        json!(in alloc; text)
+        out.string(&text)
     }
 }
 
-impl ToJson for Pair {
+impl WriteJson for Pair {
     ghost Part = { PairPart };
 
     ghost part = { pair_part };
 
     ghost written = { pair_data };
 
-    fn to_json(&self, alloc: Global) -> Result<Value, AllocError> {
-        json!(in alloc; [u32::from(self.from), u32::from(self.to)])
+    fn write_json(&self, _alloc: Global, out: &mut Writer) -> Result<(), AllocError> {
+        out.begin_array()?;
+        integer(out, i64::from(self.from))?;
+        integer(out, i64::from(self.to))?;
+        out.end_array()
     }
 }
 
-impl<E: ToJson + Blank> ToJson for Exception<E> {
+impl<E: WriteJson + Blank> WriteJson for Exception<E> {
     ghost Part = { ExceptionPart E.Part };
 
     ghost part = { exception_part E.part };
@@ -50,10 +53,10 @@ impl<E: ToJson + Blank> ToJson for Exception<E> {
     ghost named = { λ e. IsNamed (pg_part e.pg) };
 
     #[tactic(auto, unfolding(crate::specs::Written::exception_data))]
-    fn to_json(&self, alloc: Global) -> Result<Value, AllocError> {
-        group_text_is_read_back(self.pg.pool, self.pg.number);
-        let pg = format!(in alloc; "{}", self.pg)?;
-        let entries = list(alloc, &self.entries)?;
-        json!(in alloc; [pg, entries])
+    fn write_json(&self, alloc: Global, out: &mut Writer) -> Result<(), AllocError> {
+        out.begin_array()?;
+        self.pg.write_json(alloc, out)?;
+        list(alloc, out, &self.entries)?;
+        out.end_array()
     }
 }

@@ -1,21 +1,24 @@
 //! What is written of a forest and of rules.
 
-ghost use Rattle.std.specs.Prelude.{◌≡◌};
+ghost use Rattle.std.specs.Prelude.{◌≡◌, ◌∷◌, ◌++◌, [], codes, OnOk};
+ghost use Rattle.serde_json.specs.Data.{string};
+ghost use Rattle.crush.specs.declared.step.Step.TheVariants.{Choose as TheChoose};
 ghost use Rattle.mapparts.specs.declared.parts.BucketPart.{BucketPart};
 ghost use Rattle.mapparts.specs.declared.parts.ItemPart.{ItemPart};
 ghost use Rattle.mapparts.specs.declared.parts.RulePart.{RulePart};
 ghost use Rattle.mapparts.specs.declared.parts.StepPart.{StepPart};
 ghost use Rattle.mapparts.specs.declared.parts.CrushParts.{CrushParts};
 ghost use Rattle.osdmap.specs.PartsOf.{item_part, bucket_part, step_part, rule_part};
-ghost use Rattle.mapjson.specs.Written.{kind_word, item_data, bucket_data, use_word, choose_word, step_data, rule_data};
+ghost use Rattle.mapjson.specs.Written.{number_data, list_of, kind_word, item_data, bucket_data, use_word, choose_word, step_data, rule_data};
+ghost use Rattle.mapjson.specs.Pieces.{tokens_of, IsReadBack};
 ghost use Rattle.mapjson.specs.PartsOfChange.{crush_parts};
 ghost use Rattle.mapjson.specs.WrittenChanges.{crush_data};
 
-use crate::written::value::{ToJson, list};
+use crate::written::value::{WriteJson, integer, integer_member, list_member, word_member};
 use buckets::{Bucket, BucketKind, Item};
-use crush::{Mode, RuleKind, Step};
+use crush::{Choose, Mode, RuleKind, Step};
+use json::Writer;
 use maptypes::{CrushMap, NumberedRule};
-use serde_json::{Value, json};
 use std::alloc::{AllocError, Global};
 
 /// The word of a bucket's kind.
@@ -52,19 +55,22 @@ fn choose_word(mode: Mode, to_leaf: bool) -> &'static str
     }
 }
 
-impl ToJson for Item {
+impl WriteJson for Item {
     ghost Part = { ItemPart };
 
     ghost part = { item_part };
 
     ghost written = { item_data };
 
-    fn to_json(&self, alloc: Global) -> Result<Value, AllocError> {
-        json!(in alloc; [self.id, self.weight])
+    fn write_json(&self, _alloc: Global, out: &mut Writer) -> Result<(), AllocError> {
+        out.begin_array()?;
+        integer(out, i64::from(self.id))?;
+        integer(out, i64::from(self.weight))?;
+        out.end_array()
     }
 }
 
-impl ToJson for Bucket {
+impl WriteJson for Bucket {
     ghost Part = { BucketPart };
 
     ghost part = { bucket_part };
@@ -72,13 +78,56 @@ impl ToJson for Bucket {
     ghost written = { bucket_data };
 
     #[tactic(auto, unfolding(crate::specs::Written::bucket_data))]
-    fn to_json(&self, alloc: Global) -> Result<Value, AllocError> {
-        let items = list(alloc, &self.items)?;
-        json!(in alloc; {"id": self.id, "items": items, "kind": kind_word(self.kind), "type": self.level})
+    fn write_json(&self, alloc: Global, out: &mut Writer) -> Result<(), AllocError> {
+        out.begin_object()?;
+        integer_member(out, "id", i64::from(self.id))?;
+        list_member(alloc, out, "items", &self.items)?;
+        word_member(out, "kind", kind_word(self.kind))?;
+        integer_member(out, "type", i64::from(self.level))?;
+        out.end_object()
     }
 }
 
-impl ToJson for Step {
+/// Writes a step that sets how a choose step tries: its word and the number.
+fn set_step(out: &mut Writer, word: &str, number: i64) -> Result<(), AllocError>
+    ensures tokens { OnOk result (out.new.tokens
+        ≡ out.old.tokens ++ tokens_of (list_of (string word.now ∷ number_data number ∷ []))) }
+    ensures before { out.new.before ≡ out.old.before }
+    ensures back { OnOk result (IsReadBack (list_of (string word.now ∷ number_data number ∷ []))) }
+{
+    out.begin_array()?;
+    out.string(word)?;
+    integer(out, number)?;
+    out.end_array()
+}
+
+/// Writes a choose step.
+#[tactic(auto, unfolding(crate::specs::Written::step_data))]
+fn choose_step(out: &mut Writer, choose: &Choose) -> Result<(), AllocError>
+    ensures tokens { OnOk result (out.new.tokens
+        ≡ out.old.tokens ++ tokens_of (step_data (step_part (TheChoose choose.now)))) }
+    ensures before { out.new.before ≡ out.old.before }
+    ensures back { OnOk result (IsReadBack (step_data (step_part (TheChoose choose.now)))) }
+{
+    out.begin_array()?;
+    out.string(choose_word(choose.mode, choose.to_leaf))?;
+    integer(out, i64::from(choose.count))?;
+    integer(out, i64::from(choose.level))?;
+    out.end_array()
+}
+
+/// Writes the step that ends a block.
+fn emit_step(out: &mut Writer) -> Result<(), AllocError>
+    ensures tokens { OnOk result (out.new.tokens
+        ≡ out.old.tokens ++ tokens_of (list_of (string (codes "emit") ∷ []))) }
+    ensures before { out.new.before ≡ out.old.before }
+{
+    out.begin_array()?;
+    out.string("emit")?;
+    out.end_array()
+}
+
+impl WriteJson for Step {
     ghost Part = { StepPart };
 
     ghost part = { step_part };
@@ -86,21 +135,32 @@ impl ToJson for Step {
     ghost written = { step_data };
 
     #[tactic(auto, unfolding(crate::specs::Written::step_data))]
-    fn to_json(&self, alloc: Global) -> Result<Value, AllocError> {
+    fn write_json(&self, _alloc: Global, out: &mut Writer) -> Result<(), AllocError> {
         match self {
-            Step::SetChooseTries(tries) => json!(in alloc; ["set_choose_tries", *tries]),
-            Step::SetChooseleafTries(tries) => json!(in alloc; ["set_chooseleaf_tries", *tries]),
-            Step::SetChooseleafVaryR(vary) => json!(in alloc; ["set_chooseleaf_vary_r", *vary]),
-            Step::SetChooseleafStable(stable) =>
-                json!(in alloc; ["set_chooseleaf_stable", *stable]),
-            Step::Take(id) => json!(in alloc; ["take", *id]),
-            Step::Choose(c) => json!(in alloc; [choose_word(c.mode, c.to_leaf), c.count, c.level]),
-            Step::Emit => json!(in alloc; ["emit"]),
+            Step::SetChooseTries(tries) => set_step(out, "set_choose_tries", i64::from(*tries)),
+            Step::SetChooseleafTries(tries) => set_step(
+                out,
+                "set_chooseleaf_tries",
+                i64::from(*tries),
+            ),
+            Step::SetChooseleafVaryR(vary) => set_step(
+                out,
+                "set_chooseleaf_vary_r",
+                i64::from(*vary),
+            ),
+            Step::SetChooseleafStable(stable) => set_step(
+                out,
+                "set_chooseleaf_stable",
+                i64::from(*stable),
+            ),
+            Step::Take(id) => set_step(out, "take", i64::from(*id)),
+            Step::Choose(choose) => choose_step(out, choose),
+            Step::Emit => emit_step(out),
         }
     }
 }
 
-impl ToJson for NumberedRule {
+impl WriteJson for NumberedRule {
     ghost Part = { RulePart };
 
     ghost part = { rule_part };
@@ -108,13 +168,16 @@ impl ToJson for NumberedRule {
     ghost written = { rule_data };
 
     #[tactic(auto, unfolding(crate::specs::Written::rule_data))]
-    fn to_json(&self, alloc: Global) -> Result<Value, AllocError> {
-        let steps = list(alloc, self.rule.steps())?;
-        json!(in alloc; {"id": self.id, "kind": use_word(self.rule.kind()), "steps": steps})
+    fn write_json(&self, alloc: Global, out: &mut Writer) -> Result<(), AllocError> {
+        out.begin_object()?;
+        integer_member(out, "id", i64::from(self.id))?;
+        word_member(out, "kind", use_word(self.rule.kind()))?;
+        list_member(alloc, out, "steps", self.rule.steps())?;
+        out.end_object()
     }
 }
 
-impl ToJson for CrushMap {
+impl WriteJson for CrushMap {
     ghost Part = { CrushParts };
 
     ghost part = { crush_parts };
@@ -122,9 +185,10 @@ impl ToJson for CrushMap {
     ghost written = { crush_data };
 
     #[tactic(auto, unfolding(crate::specs::WrittenChanges::crush_data))]
-    fn to_json(&self, alloc: Global) -> Result<Value, AllocError> {
-        let buckets = list(alloc, self.forest().buckets())?;
-        let rules = list(alloc, self.rules())?;
-        json!(in alloc; {"buckets": buckets, "rules": rules})
+    fn write_json(&self, alloc: Global, out: &mut Writer) -> Result<(), AllocError> {
+        out.begin_object()?;
+        list_member(alloc, out, "buckets", self.forest().buckets())?;
+        list_member(alloc, out, "rules", self.rules())?;
+        out.end_object()
     }
 }

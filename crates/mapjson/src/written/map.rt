@@ -1,51 +1,64 @@
 //! What is written of a map.
 
-ghost use Rattle.std.specs.Prelude.{◌≡◌, IfOk, option_map, pos};
+ghost use Rattle.std.specs.Prelude.{◌≡◌, ◌++◌, OnOk, option_map, pos};
 ghost use Rattle.std.specs.List.{list_any};
 ghost use Rattle.crush.specs.Grammar.{sets_tries};
-ghost use Rattle.serde_json.specs.View.{view};
 ghost use Rattle.mapparts.specs.declared.parts.MapParts.{MapParts};
-ghost use Rattle.osdmap.specs.PartsOf.{part_listed, osd_parts, version_of, parts_of};
+ghost use Rattle.osdmap.specs.PartsOf.{osd_part, part_listed, osd_parts, version_of, parts_of};
 ghost use Rattle.mapjson.specs.Written.{list_data, osd_data, AreNamed, map_data};
+ghost use Rattle.mapjson.specs.Pieces.{tokens_of, tokens_of_some, IsReadBack, IsSomeReadBack};
 
-use crate::written::value::{ToJson, list};
+use crate::written::value::{WriteJson, boolean_member, epoch_member, integer_member, list_member};
 use crush::Step;
-use maptypes::NumberedRule;
+use json::Writer;
+use maptypes::{NumberedRule, OsdState};
 use osdmap::OsdMap;
-use serde_json::{Value, json};
 use std::alloc::{AllocError, Global};
 
-/// What is written of an OSD, where anything is.
+/// Writes an OSD that exists, or has a reweight.
 #[tactic(auto, unfolding(crate::specs::Written::osd_data))]
-fn osd(alloc: Global, map: &OsdMap, id: u32) -> Result<Option<Value>, AllocError>
-    ensures { IfOk result (λ o. option_map view o ≡ option_map osd_data (part_listed map.now.map id)) }
+fn existing_osd(out: &mut Writer, id: u32, state: &OsdState) -> Result<(), AllocError>
+    ensures tokens { OnOk result (out.new.tokens
+        ≡ out.old.tokens ++ tokens_of (osd_data (osd_part id state.now))) }
+    ensures before { out.new.before ≡ out.old.before }
+    ensures back { OnOk result (IsReadBack (osd_data (osd_part id state.now))) }
 {
-    let Some(state) = map.osd(id) else {
-        return Ok(None);
-    };
-    if !state.exists && state.weight == 0 {
-        return Ok(None);
-    }
-    let value = json!(in alloc; {
-        "exists": state.exists,
-        "id": id,
-        "up": state.up,
-        "weight": state.weight,
-    })?;
-    Ok(Some(value))
+    out.begin_object()?;
+    boolean_member(out, "exists", state.exists)?;
+    integer_member(out, "id", i64::from(id))?;
+    boolean_member(out, "up", state.up)?;
+    integer_member(out, "weight", i64::from(state.weight))?;
+    out.end_object()
 }
 
-/// The list of what is written of the OSDs.
-fn osds(alloc: Global, map: &OsdMap) -> Result<Value, AllocError>
-    ensures { IfOk result (λ v. view v ≡ list_data osd_data (osd_parts map.now.map)) }
+/// Writes an OSD, where anything is written of it.
+fn osd(out: &mut Writer, map: &OsdMap, id: u32) -> Result<(), AllocError>
+    ensures tokens { OnOk result (out.new.tokens
+        ≡ out.old.tokens ++ tokens_of_some (option_map osd_data (part_listed map.now.map id))) }
+    ensures before { out.new.before ≡ out.old.before }
+    ensures back { OnOk result (IsSomeReadBack (option_map osd_data (part_listed map.now.map id))) }
 {
-    let mut found = Vec::new(alloc);
-    for id in 0..map.max_osd() {
-        if let Some(value) = osd(alloc, map, id)? {
-            found.push(value)?;
-        }
+    let Some(state) = map.osd(id) else {
+        return Ok(());
+    };
+    if !state.exists && state.weight == 0 {
+        return Ok(());
     }
-    Ok(Value::Array(found))
+    existing_osd(out, id, &state)
+}
+
+/// Writes the list of the OSDs.
+fn osds(out: &mut Writer, map: &OsdMap) -> Result<(), AllocError>
+    ensures tokens { OnOk result (out.new.tokens
+        ≡ out.old.tokens ++ tokens_of (list_data osd_data (osd_parts map.now.map))) }
+    ensures before { out.new.before ≡ out.old.before }
+    ensures back { OnOk result (IsReadBack (list_data osd_data (osd_parts map.now.map))) }
+{
+    out.begin_array()?;
+    for id in 0..map.max_osd() {
+        osd(out, map, id)?;
+    }
+    out.end_array()
 }
 
 /// Whether a step sets how a choose step tries.
@@ -82,7 +95,7 @@ fn version(rules: &[NumberedRule]) -> u32
     if set_tries(rules) { 2 } else { 1 }
 }
 
-impl ToJson for OsdMap {
+impl WriteJson for OsdMap {
     ghost Part = { MapParts };
 
     ghost part = { λ m. parts_of m.map };
@@ -92,23 +105,18 @@ impl ToJson for OsdMap {
     ghost named = { λ m. AreNamed (parts_of m.map).pg_upmap × AreNamed (parts_of m.map).pg_upmap_items };
 
     #[tactic(auto, unfolding(crate::specs::Written::map_data, osdmap::specs::PartsOf::parts_of))]
-    fn to_json(&self, alloc: Global) -> Result<Value, AllocError> {
-        let buckets = list(alloc, self.forest().buckets())?;
-        let rules = list(alloc, self.rules())?;
-        let pools = list(alloc, self.pools())?;
-        let osds = osds(alloc, self)?;
-        let pg_upmap = list(alloc, self.explicits())?;
-        let pg_upmap_items = list(alloc, self.all_items())?;
-        json!(in alloc; {
-            "buckets": buckets,
-            "epoch": self.epoch(),
-            "max_osd": self.max_osd(),
-            "osds": osds,
-            "pg_upmap": pg_upmap,
-            "pg_upmap_items": pg_upmap_items,
-            "pools": pools,
-            "rules": rules,
-            "version": version(self.rules()),
-        })
+    fn write_json(&self, alloc: Global, out: &mut Writer) -> Result<(), AllocError> {
+        out.begin_object()?;
+        list_member(alloc, out, "buckets", self.forest().buckets())?;
+        epoch_member(out, "epoch", self.epoch())?;
+        integer_member(out, "max_osd", i64::from(self.max_osd()))?;
+        out.key("osds")?;
+        osds(out, self)?;
+        list_member(alloc, out, "pg_upmap", self.explicits())?;
+        list_member(alloc, out, "pg_upmap_items", self.all_items())?;
+        list_member(alloc, out, "pools", self.pools())?;
+        list_member(alloc, out, "rules", self.rules())?;
+        integer_member(out, "version", i64::from(version(self.rules())))?;
+        out.end_object()
     }
 }

@@ -8,12 +8,12 @@ ghost use Rattle.mapjson.specs.PartsOfChange.{growth_part};
 ghost use Rattle.mapjson.specs.WrittenChanges.{growth_data};
 
 use crate::written::forest::use_word;
-use crate::written::value::ToJson;
+use crate::written::value::{WriteJson, integer, integer_member, word_member};
+use json::Writer;
 use maptypes::{Grow, Pool};
-use serde_json::{Value, json};
 use std::alloc::{AllocError, Global};
 
-impl ToJson for Pool {
+impl WriteJson for Pool {
     ghost Part = { PoolPart };
 
     ghost part = { pool_part };
@@ -21,26 +21,30 @@ impl ToJson for Pool {
     ghost written = { pool_data };
 
     #[tactic(auto, unfolding(crate::specs::Written::pool_data))]
-    fn to_json(&self, alloc: Global) -> Result<Value, AllocError> {
-        json!(in alloc; {
-            "id": self.id(),
-            "kind": use_word(self.kind()),
-            "pg_num": self.pg_num(),
-            "pgp_num": self.pgp_num(),
-            "rule": self.rule(),
-            "size": self.size(),
-        })
+    fn write_json(&self, _alloc: Global, out: &mut Writer) -> Result<(), AllocError> {
+        out.begin_object()?;
+        integer_member(out, "id", i64::from(self.id()))?;
+        word_member(out, "kind", use_word(self.kind()))?;
+        integer_member(out, "pg_num", i64::from(self.pg_num()))?;
+        integer_member(out, "pgp_num", i64::from(self.pgp_num()))?;
+        integer_member(out, "rule", i64::from(self.rule()))?;
+        integer_member(out, "size", i64::from(self.size()))?;
+        out.end_object()
     }
 }
 
-impl ToJson for Grow {
+impl WriteJson for Grow {
     ghost Part = { GrowPart };
 
     ghost part = { growth_part };
 
     ghost written = { growth_data };
 
-    fn to_json(&self, alloc: Global) -> Result<Value, AllocError> {
-        json!(in alloc; [self.pool(), self.pg_num(), self.pgp_num()])
+    fn write_json(&self, _alloc: Global, out: &mut Writer) -> Result<(), AllocError> {
+        out.begin_array()?;
+        integer(out, i64::from(self.pool()))?;
+        integer(out, i64::from(self.pg_num()))?;
+        integer(out, i64::from(self.pgp_num()))?;
+        out.end_array()
     }
 }

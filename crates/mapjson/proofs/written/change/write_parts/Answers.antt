@@ -1,14 +1,30 @@
-use Rattle.std.proofs.Common.{pos, sym}
-use Rattle.std.proofs.lemmas.List.Elements.{All-map, All-same}
-use Rattle.osdmap.specs.PartsOf.{pg_part, pair_part, exception_part}
-use Rattle.mapjson.specs.Written.{IsNamed}
+use Rattle.std.proofs.Common.{[], ◌∷◌, ◌++◌, ap, ◌∙◌}
+use Rattle.std.proofs.lemmas.Result.{on_ok_weaker}
+use Rattle.json.specs.Token.{end_object}
+use Rattle.mapjson.specs.PartsOfChange.{change_parts}
+use Rattle.mapjson.specs.WrittenChanges.{crush_member, first_members, last_members}
+use Rattle.mapjson.specs.Pieces.{member_tokens}
+use Rattle.mapjson.proofs.ChangeBack.{change_read, change_tokens}
 use Rattle.mapjson.proofs.written.change.write_parts.Goals as goal
+
+pub returns-clause-tokens : goal.returns-clause-tokens
+returns-clause-tokens c =
+    let parts = change_parts c.args.base c.args.parts.now in
+    let first = c.in_ok-first_members.ensures.tokens ∙ ap (λ ts. ts ++ member_tokens (first_members parts)) c.in_ok-begin_object.ensures.ok in
+    let crush = c.in_ok-crush_member.ensures.tokens ∙ ap (λ ts. ts ++ member_tokens (crush_member parts.new_crush)) first in
+    let last = c.in_ok-last_members.ensures.tokens ∙ ap (λ ts. ts ++ member_tokens (last_members parts)) crush in
+    on_ok_weaker c.end_object.result (λ e. e ∙ ap (λ ts. ts ++ end_object ∷ []) last ∙ change_tokens parts c.args.out.now.tokens) c.end_object.ensures.ok
+
+pub returns-clause-back : goal.returns-clause-back
+returns-clause-back c =
+    on_ok_weaker c.end_object.result (λ e. change_read (change_parts c.args.base c.args.parts.now) c.in_ok-first_members.ensures.back c.in_ok-crush_member.ensures.back c.in_ok-last_members.ensures.back) c.end_object.ensures.ok
 
 pub returns-clause-named : goal.returns-clause-named
 returns-clause-named c =
-    let p = c.args.parts.now in record {
-      old_upmap = All-map IsNamed pg_part p.old_upmap (All-same (λ g. IsNamed (pg_part g)) p.old_upmap c.deref-8.result.now (sym c.deref-8.ensures) c.in_ok-put_list-8.ensures.named);
-      old_items = All-map IsNamed pg_part p.old_items (All-same (λ g. IsNamed (pg_part g)) p.old_items c.deref-6.result.now (sym c.deref-6.ensures) c.in_ok-put_list-6.ensures.named);
-      new_upmap = All-map (λ e. IsNamed e.pg) (exception_part pos) p.new_upmap (All-same (λ e. IsNamed (pg_part e.pg)) p.new_upmap c.deref-5.result.now (sym c.deref-5.ensures) c.in_ok-put_list-5.ensures.named);
-      new_items = All-map (λ e. IsNamed e.pg) (exception_part pair_part) p.new_items (All-same (λ e. IsNamed (pg_part e.pg)) p.new_items c.deref-3.result.now (sym c.deref-3.ensures) c.in_ok-put_list-3.ensures.named);
-    }
+    let n = c.in_ok-last_members.ensures.named in
+    on_ok_weaker c.end_object.result (λ e. record {
+      old_upmap = n.old_upmap;
+      old_items = n.old_items;
+      new_upmap = n.new_upmap;
+      new_items = n.new_items;
+    }) c.end_object.ensures.ok
