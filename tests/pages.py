@@ -344,7 +344,8 @@ class Pages(Case):
         self.assertFalse(unknown)
 
     def test_options(self) -> None:
-        """Each option that a page names is one of the programs, of the tools, or of others"""
+        """Each option that a page names is one of the programs, of the tools, or of others; and docs/FORMATS.md names
+        each of the programs"""
         own = options_of_programs()
         known = OF_PARSERS | {f"--{name}" for name in own}
         for path in sorted((TOP / "tools" / "rekhuso").rglob("*.py")):
@@ -355,6 +356,7 @@ class Pages(Case):
         unknown = {named for named in said if named[1] not in known | OPTIONS_OF_OTHERS}
         idle = OPTIONS_OF_OTHERS - {option for _, option in said}
         self.assertGreater(len({*own}), 5, (unknown, idle))
+        self.assertLessEqual({("FORMATS.md", f"--{name}") for name in own}, said)
         self.assertFalse(unknown, (unknown, idle))
         self.assertFalse(idle, (unknown, idle))
 
