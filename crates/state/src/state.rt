@@ -73,7 +73,7 @@ fn prepare(
     requires early { map.old.map.epoch + 1 < 2 ^ 64 }
     ensures same { map.new.map ≡ map.old.map }
     ensures ready { IfOk result (λ r. IsReady map.new table.now change r.0 r.1.value) }
-    ensures runs { IfOk result (λ r. RunsMore r.0.evals work.old work.new) }
+    ensures runs { IfOk result (λ r. RunMore r.0.evals rooms.old rooms.new) }
 {
     map.reserve_for(alloc, &change)?;
     let patch = table.prepare(alloc, map, &change, rooms)?;
