@@ -1,12 +1,14 @@
 #!/usr/bin/env python3
 """Tells what the proofs stand on: by the log of a gate, of `rt check` or of `rt run`, and by the sources.
 
-    trust.py LOG [ROOT] > bench/results/trust.md
+    trust.py LOG.. > bench/results/trust.md
 
-Of the log it reads the last line of each crate's check (`logic=proved ..`) and the lines above it that name C functions
-(`axioms CRATE: ..`, or the lists of `--list-axioms`). A check names its crate itself (`crate NAME: ..`), a gate before it
-(`== NAME`); what a gate says of the tests of a crate is passed over. Of the sources it counts the definitions of `specs/`: all, and
-those that the contracts of the promises cite, directly or by another definition; and the lines of the tools.
+Of each log it reads the last line of each crate's check (`logic=proved ..`) and the lines above it that name C
+functions (`axioms CRATE: ..`, or the lists of `--list-axioms`). A check names its crate itself (`crate NAME: ..`), a
+gate before it (`== NAME`); what a gate says of the tests of a crate is passed over. A crate that stands in several logs
+is told by the last: a gate cuts the names of C functions short, which a check by `--list-axioms` behind it tells. Of
+the sources it counts the definitions of `specs/`: all, and those that the contracts of the promises cite, directly or
+by another definition; and the lines of the tools.
 """
 
 from __future__ import annotations
@@ -240,11 +242,11 @@ def functions_told(own: Verdict) -> Iterator[str]:
 
 def main() -> None:
     """Puts the page out."""
-    if len(sys.argv) not in (2, 3):
+    if len(sys.argv) < 2:
         sys.exit((__doc__ or "").strip())
-    root = pathlib.Path(sys.argv[2] if len(sys.argv) == 3 else pathlib.Path(__file__).parent.parent)
-    log = pathlib.Path(sys.argv[1]).read_text(encoding="utf-8", errors="replace")
-    verdicts = {own.crate: own for own in verdicts_in(log)}
+    root = pathlib.Path(__file__).resolve().parent.parent
+    logs = [pathlib.Path(name).read_text(encoding="utf-8", errors="replace") for name in sys.argv[1:]]
+    verdicts = {own.crate: own for log in logs for own in verdicts_in(log)}
     programs = [own for own in verdicts.values() if own.functions]
     print("# What the proofs stand on\n")
     print(f"By hand, on {datetime.date.today()}, by `tools/trust.py` from a log of checks and from the sources.")
