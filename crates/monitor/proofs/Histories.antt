@@ -1,5 +1,5 @@
 -- Histories: what goes on from them, and what is answered by them.
-use Rattle.std.proofs.Common.{◌≡◌, ◌≢◌, ◌∙◌, IfErr, arith, sym, ap, subst, ℕ, ◌+◌, List, [], ◌∷◌, ◌++◌, length, Result, Ok, Err, inl, inr}
+use Rattle.std.proofs.Common.{◌≡◌, ◌≢◌, ◌∙◌, IfErr, arith, sym, ap, subst, ℕ, ◌+◌, List, [], ◌∷◌, ◌++◌, length, Result, Ok, Err, inl, inr, refl}
 use Rattle.refusal.specs.declared.refused.Refusal.{Refusal}
 use Rattle.refusal.specs.Refusals.{number_of}
 use Rattle.refusal.specs.declared.refused.Refusal.TheVariants.{Memory as OutOfMemory, SeatSpent, NotSealed, NotStored}
@@ -12,32 +12,68 @@ use Rattle.epochlog.specs.Epochs.{Begins}
 use Rattle.sealed.proofs.Beginnings.{begins_itself, begins_on}
 use Rattle.state.specs.declared.state.Commit.{Commit}
 use Rattle.state.specs.States.{StateFacts, ran, committed, next_step, commit_fault, fault_in, IsRefusedBy, Commits as TakesCommit}
+use Rattle.std.proofs.lemmas.Bool.{eq-eqb}
 use Rattle.state.proofs.Journals.{accepted}
 use Rattle.state.proofs.Refusing.{commit_early}
-use Rattle.monitor.specs.Histories.{AnswersCommit, AddsChange}
+use Rattle.monitor.specs.Histories.{IsCommitted, AnswersCommit, present_fault, AnswersApply, AddsChange}
 
 -- a history of nothing is lawful
 pub lawful_none : (first : ClusterMap) → IsLawful first []
 unfolding IsLawful
 lawful_none first = tt
 
+-- a commit that goes on from here
+goes_from : (first : ClusterMap) (most : ℕ) (begun before now : List Step) (base : ℕ) (change : ChangeParts) (epoch evals : ℕ)
+    → Begins begun before → IsCommitted first most before now base change epoch evals → IsCommitted first most begun now base change epoch evals
+goes_from first most begun before now base change epoch evals goes made = record {
+  found = made.found;
+  goes_on = begins_on begun before made.found goes made.goes_on;
+  ends = made.ends;
+  based = made.based;
+  next = made.next;
+  counted = made.counted;
+  accepted = made.accepted;
+}
+
 -- a commit to a map after a history that goes on from this one is also one from here
 pub commits_from : (first : ClusterMap) (most : ℕ) (begun before now : List Step) (base : ℕ) (change : ChangeParts)
     (r : Result Commit Refusal) → Begins begun before → AnswersCommit first most before now base change r → AnswersCommit first most begun now base change r
 commits_from first most begun before now base change (Ok ok) goes done = (
   record { begins = begins_on begun before now goes done.0.begins; lawful = done.0.lawful },
-  record {
-    found = done.1.found;
-    goes_on = begins_on begun before done.1.found goes done.1.goes_on;
-    ends = done.1.ends;
-    based = done.1.based;
-    next = done.1.next;
-    counted = done.1.counted;
-    accepted = done.1.accepted;
-  },
+  goes_from first most begun before now base change ok.epoch ok.evals goes done.1,
 )
 commits_from first most begun before now base change (Err e) goes done =
     (record { begins = begins_on begun before now goes done.0.begins; lawful = done.0.lawful }, done.1)
+
+-- so is a commit to the map that is found
+pub applies_from : (first : ClusterMap) (most : ℕ) (begun before now : List Step) (change : ChangeParts) (r : Result Commit Refusal)
+    → Begins begun before → AnswersApply first most before now change r → AnswersApply first most begun now change r
+applies_from first most begun before now change (Ok ok) goes done = (
+  record { begins = begins_on begun before now goes done.0.begins; lawful = done.0.lawful },
+  (done.1.0, goes_from first most begun before now done.1.0 change ok.epoch ok.evals goes done.1.1),
+)
+applies_from first most begun before now change (Err e) goes done =
+    (record { begins = begins_on begun before now goes done.0.begins; lawful = done.0.lawful }, done.1)
+
+-- where the base is the epoch of a map, what refuses a commit to it is what refuses the change
+fault_present : (m : ClusterMap) (done most base : ℕ) (change : ChangeParts) → base ≡ m.epoch
+    → commit_fault m done most base change ≡ present_fault m done most change
+unfolding commit_fault
+fault_present m done most base change is = rw (eq-eqb base m.epoch is) refl
+
+-- a commit is one to the map that is found, where its base is that of the map after all
+pub applied_by : (first : ClusterMap) (most : ℕ) (before now : List Step) (base : ℕ) (change : ChangeParts) (r : Result Commit Refusal)
+    → base ≡ (after first before).epoch → AddsChange before now change r → AnswersCommit first most before now base change r
+    → AnswersApply first most before now change r
+applied_by first most before now base change (Ok ok) is adds done = (done.0, (base, done.1))
+applied_by first most before now base change (Err e) is adds done =
+    let here : base ≡ (after first now).epoch = is ∙ ap (λ h. (after first h).epoch) (sym adds) in (
+      done.0,
+      elim done.1 [
+        | inl spent ↦ inl spent
+        | inr refused ↦ inr (subst (λ f. IsRefusedBy f e) (fault_present (after first now) (length now) most base change here) refused)
+      ],
+    )
 
 -- what is known of a state: its journal is lawful from its first map, and leads to its map
 pub record IsLed (k : StateFacts) : Type 0 where

@@ -11,7 +11,7 @@ use Rattle.state.specs.States.{commit_fault, unless}
 use Rattle.balancer.specs.Shares.{Aim}
 use Rattle.state.specs.declared.state.Commit.{Commit}
 use Rattle.state.specs.declared.balancing.Balance.{Balance}
-use Rattle.monitor.specs.Histories.{IsCommitted, AnswersCommit}
+use Rattle.monitor.specs.Histories.{IsCommitted, AnswersCommit, AnswersApply}
 use Rattle.monitor.specs.Balances.{IsPlanned, AnswersBalance}
 use Rattle.monitor.specs.Making.{IsOfRow}
 
@@ -47,6 +47,13 @@ pub commit_marks : (n k : ℕ) (first : ClusterMap) (most : ℕ) (before now : L
 commit_marks n k first most before now base change (Ok ok) at many answers =
     rw (at, many) (commit_of_row first most before now base change ok.epoch ok.evals answers.1)
 commit_marks n k first most before now base change (Err e) at many answers = tt
+
+-- so does what a change without a base answers
+pub apply_marks : (n k : ℕ) (first : ClusterMap) (most : ℕ) (before now : List Step) (change : ChangeParts) (r : Result Commit Refusal)
+    → n ≡ first.epoch → k ≡ most → AnswersApply first most before now change r → IfOk r (λ ok. IsOfRow n k ok.epoch)
+apply_marks n k first most before now change (Ok ok) at many answers =
+    rw (at, many) (commit_of_row first most before now answers.1.0 change ok.epoch ok.evals answers.1.1)
+apply_marks n k first most before now change (Err e) at many answers = tt
 
 -- so does what a plan answers
 pub plan_marks : (n k : ℕ) (first : ClusterMap) (most : ℕ) (before now : List Step) (pool : ℕ) (aim : Aim) (limit : ℕ) (r : Result Balance Refusal)

@@ -1,15 +1,15 @@
 -- One history: what a member has seen before a call and after it, and what the call answers by that.
-use Rattle.std.specs.Prelude.{◌≡◌, ◌⊎◌, ℕ, ◌+◌, List, [], ◌∷◌, ◌++◌, length, None, Result, Err, MatchResult}
+use Rattle.std.specs.Prelude.{◌≡◌, ◌⊎◌, ℕ, ◌+◌, List, [], ◌∷◌, ◌++◌, length, nat_lt, Option, None, Some, Result, Err, MatchResult, if◌then◌else◌}
 use Rattle.refusal.specs.declared.refused.Refusal.{Refusal}
-use Rattle.refusal.specs.declared.refused.Refusal.TheVariants.{SeatSpent}
+use Rattle.refusal.specs.declared.refused.Refusal.TheVariants.{JournalFull, SeatSpent}
 use Rattle.maptypes.specs.declared.change.ChangeParts.{ChangeParts}
 use Rattle.maptypes.specs.Incrementals.{Step}
 use Rattle.osdmap.specs.Maps.{ClusterMap}
 use Rattle.osdmap.specs.Evals.{evals_of}
-use Rattle.osdmap.specs.Changes.{after, IsLawful, epoch_after}
+use Rattle.osdmap.specs.Changes.{change_fault, after, IsLawful, epoch_after}
 use Rattle.epochlog.specs.Epochs.{Begins}
 use Rattle.state.specs.declared.state.Commit.{Commit}
-use Rattle.state.specs.States.{commit_fault, IsRefusedBy}
+use Rattle.state.specs.States.{unless, commit_fault, IsRefusedBy}
 
 -- a history goes on: the one before begins it, and it is lawful from the first map
 pub record GoesOn (first : ClusterMap) (before now : List Step) : Type 0 where
@@ -41,6 +41,20 @@ AnswersCommit first most before now base change r =
     GoesOn first before now
     × MatchResult r (λ ok. IsCommitted first most before now base change ok.epoch ok.evals)
     (λ e. (e ≡ SeatSpent) ⊎ IsRefusedBy (commit_fault (after first now) (length now) most base change) e)
+
+-- the first refusal that applies to a change without a base, at a map after so many changes of at most so many: what
+-- refuses the change; the journal is full
+abbrev pub present_fault : ClusterMap → ℕ → ℕ → ChangeParts → Option Refusal
+present_fault m done most change = unless (change_fault m change) (if nat_lt done most then None else Some JournalFull)
+
+-- what a change without a base answers: that it is committed, with the epoch of the map that was found as its base; or
+-- the fault at the history now, or where there is none that memory was short or another sealed the epoch; or that its
+-- seat has made its draws
+abbrev pub AnswersApply : ClusterMap → ℕ → List Step → List Step → ChangeParts → Result Commit Refusal → Type 0
+AnswersApply first most before now change r =
+    GoesOn first before now
+    × MatchResult r (λ ok. (base : ℕ) × IsCommitted first most before now base change ok.epoch ok.evals)
+    (λ e. (e ≡ SeatSpent) ⊎ IsRefusedBy (present_fault (after first now) (length now) most change) e)
 
 -- a history is longer by the incremental of a change that was accepted, and by nothing else
 abbrev pub AddsChange : List Step → List Step → ChangeParts → Result Commit Refusal → Type 0

@@ -1,6 +1,6 @@
 //! What a member commits to its monitor.
 
-use crate::locked::{balance, commit};
+use crate::locked::{apply, balance, commit};
 use crate::member::{Member, commits_made, mark_commit, mark_plan, plans_made};
 use crate::monitor::Monitor;
 use balancer::Request;
@@ -14,7 +14,7 @@ impl<K: Keeps + Drop> Monitor<K> {
     ghost use Rattle.std.specs.Prelude.{◌≡◌, true, length, Some, IfErr};
     ghost use Rattle.refusal.specs.declared.refused.Refusal.TheVariants.{NotStored};
     ghost use Rattle.balancer.specs.Requests.{asked_aim};
-    ghost use Rattle.monitor.specs.Histories.{AnswersCommit, AddsChange};
+    ghost use Rattle.monitor.specs.Histories.{AnswersCommit, AnswersApply, AddsChange};
     ghost use Rattle.monitor.specs.Balances.{AnswersBalance, AddsPlan};
     ghost use Rattle.monitor.specs.Members.{IsMemberOf, TakesTurn};
     ghost use Rattle.monitor.specs.Making.{HasMade, planned_epoch};
@@ -49,6 +49,39 @@ impl<K: Keeps + Drop> Monitor<K> {
         let mut guard = self.hold(rt, member)?;
         let state: &mut State<K> = &mut guard.value_mut().state;
         let answer = commit(state, &self.row, &mut member.pass, base, change);
+        guard
+            .value_mut()
+            .count(&mut member.seen, &mut member.mine, commits_made(&answer));
+        self.put_back(guard, member);
+        mark_commit(&mut member.own, self.first.map().epoch(), &answer);
+        answer
+    }
+
+    /// Commits a change to the map that it finds: the new epoch, and for how many groups a rule was run. The member has
+    /// the lock alone, so no other's change comes between.
+    ///
+    /// # Errors
+    ///
+    /// As for [`Monitor::commit`], but that it is never refused by `StaleEpoch` (20).
+    pub fn apply<R: Wait>(
+        &self,
+        rt: &R,
+        member: &mut Member,
+        change: Change,
+    ) -> Result<Commit, Refusal>
+        requires { IsMemberOf self.now member.old }
+        ensures turn { TakesTurn self.now member.old member.new result }
+        ensures applies { AnswersApply self.now.first (length self.now.row.cells)
+            member.old.pass.history member.new.pass.history change result }
+        ensures own { HasMade self.now.first.epoch member.old.own.items member.new.own.items
+            (λ ok. Some ok.epoch) result }
+        ensures stored { IfErr result (λ e. e ≡ NotStored → K.may_fail) }
+        ensures alone { self.now.alone ≡ true →
+            AddsChange member.old.pass.history member.new.pass.history change result }
+    {
+        let mut guard = self.hold(rt, member)?;
+        let state: &mut State<K> = &mut guard.value_mut().state;
+        let answer = apply(state, &self.row, &mut member.pass, change);
         guard
             .value_mut()
             .count(&mut member.seen, &mut member.mine, commits_made(&answer));

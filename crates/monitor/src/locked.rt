@@ -5,7 +5,7 @@ ghost use Rattle.refusal.specs.declared.refused.Refusal.TheVariants.{SeatSpent, 
 ghost use Rattle.osdmap.specs.Changes.{IsLawful, after};
 ghost use Rattle.epochlog.specs.Epochs.{Begins};
 ghost use Rattle.balancer.specs.Requests.{asked_aim};
-ghost use Rattle.monitor.specs.Histories.{AnswersCommit, AddsChange};
+ghost use Rattle.monitor.specs.Histories.{AnswersCommit, AnswersApply, AddsChange};
 ghost use Rattle.monitor.specs.Balances.{AnswersBalance, AddsPlan};
 ghost use Rattle.monitor.specs.Making.{commits_made, plans_made};
 ghost use Rattle.monitor.specs.Members.{Counts, Matches};
@@ -121,6 +121,29 @@ pub(crate) fn commit<K: Keeps + Drop>(
     let answer = state.commit(row, pass, base, change);
     let _ = state.map();
     answer
+}
+
+/// Commits a change to the map of a state, by one who has seen all that it has.
+pub(crate) fn apply<K: Keeps + Drop>(
+    state: &mut State<K>,
+    row: &Row,
+    pass: &mut Pass,
+    change: Change,
+) -> Result<Commit, Refusal>
+    requires row { state.old.pass.row ≡ row.now }
+    requires pass { pass.old ≡ state.old.pass }
+    ensures applies { AnswersApply state.old.first (length row.now.cells)
+        pass.old.history pass.new.history change result }
+    ensures own { AddsChange pass.old.history pass.new.history change result }
+    ensures longer { length pass.new.history ≡ length pass.old.history + commits_made result }
+    ensures unspent { IfErr result (λ e. e ≢ SeatSpent) }
+    ensures stored { IfErr result (λ e. e ≡ NotStored → K.may_fail) }
+    ensures pass { pass.new ≡ state.new.pass }
+    ensures first { state.new.first ≡ state.old.first }
+    ensures row { state.new.pass.row ≡ row.now }
+{
+    let base = state.map().epoch();
+    commit(state, row, pass, base, change)
 }
 
 /// Plans and commits the moves that are asked for, which balance a pool of a state, by one who has seen all that it

@@ -4,9 +4,9 @@ use Rattle.maptypes.specs.declared.change.ChangeParts.{ChangeParts}
 use Rattle.refusal.specs.declared.refused.Refusal.{Refusal}
 use Rattle.state.specs.declared.state.Commit.{Commit}
 use Rattle.state.specs.declared.balancing.Balance.{Balance}
-use Rattle.session.specs.Commands.{Beside, Command, ask, change, wait, balance, follower, command_by}
+use Rattle.session.specs.Commands.{Beside, Command, ask, change, apply, wait, balance, follower, command_by}
 use Rattle.session.specs.Transcripts.{IsTranscript, TakesLine}
-use Rattle.session.specs.Answers.{Basis, Account, Sight, Changes, Plans, Does, session_by}
+use Rattle.session.specs.Answers.{Basis, Account, Sight, Changes, Applies, Plans, Does, session_by}
 
 -- where nothing has happened, nothing is drawn
 none_drawn : (before now : Account) → now ≡ before → now.draws ≤ before.draws + 1
@@ -17,6 +17,12 @@ change_draws : (basis : Basis) (text : List ℕ) (before now : Account) (r : Res
     → now.draws ≤ before.draws + 1
 change_draws basis text before now r (Ok read, makes, (answers, draws, own)) = draws.no_more
 change_draws basis text before now r (Err e, makes, (is, same)) = none_drawn before now same
+
+-- so does one without a base
+apply_draws : (basis : Basis) (text : List ℕ) (before now : Account) (r : Result Commit Refusal) → Applies basis text before now r
+    → now.draws ≤ before.draws + 1
+apply_draws basis text before now r (Ok read, makes, (answers, draws, own)) = draws.no_more
+apply_draws basis text before now r (Err e, makes, (is, same)) = none_drawn before now same
 
 -- so does a plan
 plan_draws : (basis : Basis) (pool limit : ℕ) (beside : Option Beside) (before now : Account) (r : Result Balance Refusal)
@@ -31,6 +37,7 @@ command_draws : (basis : Basis) (before now : Sight) (command : Option Command) 
 command_draws basis before now None line (is, same) = omega (arith, ap (λ (s : Sight). s.member.draws) same)
 command_draws basis before now (Some (ask question)) line ((r, (answers, draws, own), is), same) = draws.no_more
 command_draws basis before now (Some (change text)) line ((r, answers, is), same) = change_draws basis text before.member now.member r answers
+command_draws basis before now (Some (apply text)) line ((r, answers, is), same) = apply_draws basis text before.member now.member r answers
 command_draws basis before now (Some (wait epoch)) line ((r, (answers, draws, own), is), same) = draws.no_more
 command_draws basis before now (Some (balance pool limit beside)) line ((r, answers, is), same) =
     plan_draws basis pool limit beside before.member now.member r answers

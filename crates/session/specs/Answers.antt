@@ -13,7 +13,7 @@ use Rattle.cleanup.specs.Kept.{remnant_at}
 use Rattle.epochlog.specs.Epochs.{OneBegins}
 use Rattle.mapparts.specs.declared.profile.Profile.{Profile}
 use Rattle.mapparts.specs.Profiles.{is_stock}
-use Rattle.mapjson.specs.ChangeTexts.{change_text_fault, StatesChange}
+use Rattle.mapjson.specs.ChangeTexts.{change_text_fault, StatesChange, unbased_text_fault, StatesUnbased}
 use Rattle.mapjson.specs.LoadTexts.{load_text_fault, StatesLoads}
 use Rattle.balancer.specs.Shares.{Aim, aim_of}
 use Rattle.state.specs.declared.state.Commit.{Commit}
@@ -22,14 +22,14 @@ use Rattle.monitor.specs.declared.question.Answer.{Answer}
 use Rattle.monitor.specs.declared.question.Answer.TheVariants as answer
 use Rattle.monitor.specs.declared.question.Question.{Question}
 use Rattle.monitor.specs.declared.question.Question.TheVariants.{Up, Epoch, Dump}
-use Rattle.monitor.specs.Histories.{GoesOn, Looks, AnswersCommit}
+use Rattle.monitor.specs.Histories.{GoesOn, Looks, AnswersCommit, AnswersApply}
 use Rattle.monitor.specs.Questions.{Finds}
 use Rattle.monitor.specs.Making.{HasMade, planned_epoch}
 use Rattle.monitor.specs.Balances.{AnswersBalance}
 use Rattle.session.specs.declared.command.Task.{Task}
 use Rattle.session.specs.declared.command.Task.TheVariants as task
 use Rattle.session.specs.declared.reply.Speaker.TheVariants as speaker
-use Rattle.session.specs.Commands.{Beside, Command, ask, change, wait, balance, follower, command_by}
+use Rattle.session.specs.Commands.{Beside, Command, ask, change, apply, wait, balance, follower, command_by}
 use Rattle.session.specs.Transcripts.{Manner}
 use Rattle.session.specs.Replies.{answer_text, changed_text, planned_text}
 use Rattle.session.specs.Texts.{epoch_text, ok_text, moved_text, refusal_text, line_of}
@@ -100,6 +100,17 @@ Changes basis text before now r =
     × MatchResult read
     (λ (base, parts). InTurn basis before now (λ b n. AnswersCommit basis.first basis.most b n base parts)
     (λ ok. Some ok.epoch) r)
+    (λ e. (r ≡ Err e) × (now ≡ before))
+
+-- what a change without a base answers, the new epoch and the evaluations: its text is read, where `Memory` may come in
+-- place of any answer; then what it states is committed to the map that is found; a text that is refused changes
+-- nothing, and nothing is looked at
+abbrev pub Applies : Basis → List ℕ → Account → Account → Result Commit Refusal → Type 0
+Applies basis text before now r =
+    (read : Result ChangeParts Refusal)
+    × Makes read (unbased_text_fault basis.profile text) (StatesUnbased basis.profile text)
+    × MatchResult read
+    (λ parts. InTurn basis before now (λ b n. AnswersApply basis.first basis.most b n parts) (λ ok. Some ok.epoch) r)
     (λ e. (r ≡ Err e) × (now ≡ before))
 
 -- why a text is refused as what OSDs carry: a script of plain maps knows none
@@ -189,6 +200,8 @@ Does basis before (Some (ask question)) line now =
     × (now.follower ≡ before.follower)
 Does basis before (Some (change text)) line now =
     IsLineOf (Changes basis text before.member now.member) changed_text line × (now.follower ≡ before.follower)
+Does basis before (Some (apply text)) line now =
+    IsLineOf (Applies basis text before.member now.member) changed_text line × (now.follower ≡ before.follower)
 Does basis before (Some (wait epoch)) line now =
     IsLineOf (Awaits basis epoch before.member now.member) (epoch_text (codes "epoch")) line
     × (now.follower ≡ before.follower)

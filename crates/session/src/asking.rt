@@ -8,7 +8,7 @@ use crate::watch::watch;
 use balancer::Request;
 use balancer::limits::LEAST_APART;
 use keeping::Keeps;
-use mapjson::{read_change, read_loads};
+use mapjson::{read_change, read_loads, read_unbased};
 use monitor::{Answer, Balance, Commit, Follower, Member};
 use refusal::Refusal;
 use std::sync::Wait;
@@ -23,7 +23,7 @@ impl<'a, R: Wait, G, K: Keeps + Drop> Desk<'a, R, G, K> {
     ghost use Rattle.session.specs.Texts.{line_of, epoch_text};
     ghost use Rattle.session.specs.Commands.{command_of, beside_of};
     ghost use Rattle.session.specs.Replies.{changed_text, planned_text, reply_text};
-    ghost use Rattle.session.specs.Answers.{Changes, beside_fault, Plans, PlansBeside, PlansFor, Awaits};
+    ghost use Rattle.session.specs.Answers.{Changes, Applies, beside_fault, Plans, PlansBeside, PlansFor, Awaits};
     ghost use Rattle.session.specs.Sessions.{IsFollowerOf, basis_of, AnswersMember, IsDone};
 
     /// Commits the change that a text states: the new epoch, and how many groups' placement was worked out anew.
@@ -34,6 +34,17 @@ impl<'a, R: Wait, G, K: Keeps + Drop> Desk<'a, R, G, K> {
     {
         let (base, change) = read_change(self.alloc, text, self.monitor.profile())?;
         self.monitor.commit(self.rt, member, base, change)
+    }
+
+    /// Commits the change that a text states without a base to the present map: the new epoch, and how many groups'
+    /// placement was worked out anew.
+    fn apply(&self, member: &mut Member, text: &[u8]) -> Result<Commit, Refusal>
+        requires { IsMemberOf self.now.monitor.now member.old }
+        ensures { AnswersMember self.now.monitor.now member.old member.new
+            (Applies (basis_of self.now.monitor.now) text.now) changed_text result }
+    {
+        let change = read_unbased(self.alloc, text, self.monitor.profile())?;
+        self.monitor.apply(self.rt, member, change)
     }
 
     /// The epoch, once it is at least the one wanted: `AwaitSpent` (34) after 1,000,000 looks without it. It takes the
@@ -138,6 +149,10 @@ impl<'a, R: Wait, G, K: Keeps + Drop> Desk<'a, R, G, K> {
             }
             Some(Command::Change(text)) => {
                 let Commit { epoch, evals } = self.change(member, text)?;
+                Ok(Reply::Changed { epoch, evals })
+            }
+            Some(Command::Apply(text)) => {
+                let Commit { epoch, evals } = self.apply(member, text)?;
                 Ok(Reply::Changed { epoch, evals })
             }
             Some(Command::Await(wanted)) => {

@@ -48,6 +48,8 @@ pub(crate) enum Command<'a> {
     Ask(Question),
     /// Commits the change that a JSON text states.
     Change(&'a [u8]),
+    /// Commits the change that a JSON text states without a base to the present map. Only a script of stock maps has it.
+    Apply(&'a [u8]),
     /// Waits until the epoch is at least this.
     Await(u64),
     /// Balances the groups of a pool.

@@ -26,6 +26,8 @@ const GROUPS: &[u8] = b"groups ";
 
 const CHANGE: &[u8] = b"change ";
 
+const APPLY: &[u8] = b"apply ";
+
 const AWAIT: &[u8] = b"await ";
 
 const BALANCE: &[u8] = b"balance ";
@@ -195,6 +197,9 @@ pub(crate) fn read_command(line: &[u8]) -> Option<Command<'_>>
     if let Some(text) = line.strip_prefix(CHANGE) {
         return Some(Command::Change(text));
     }
+    if let Some(text) = line.strip_prefix(APPLY) {
+        return Some(Command::Apply(text));
+    }
     if let Some(epoch) = line.strip_prefix(AWAIT) {
         return Some(Command::Await(read_epoch(epoch)?));
     }
@@ -204,12 +209,12 @@ pub(crate) fn read_command(line: &[u8]) -> Option<Command<'_>>
     Some(Command::Follower(read_task(line)?))
 }
 
-/// The command of a line in a script of maps of this profile: a script of plain maps has no `fkept`.
+/// The command of a line in a script of maps of this profile: a script of plain maps has no `apply` and no `fkept`.
 pub(crate) fn known_in(profile: Profile, command: Option<Command<'_>>) -> Option<Command<'_>>
     ensures { option_map command_of result ≡ known_in profile (option_map command_of command.entry) }
 {
     match command {
-        Some(Command::Follower(Task::Kept(_))) if !profile.is_stock() => None,
+        Some(Command::Apply(_) | Command::Follower(Task::Kept(_))) if !profile.is_stock() => None,
         _ => command,
     }
 }
