@@ -71,7 +71,11 @@ def lines(pool: int, epoch: int = 100_000) -> str:
     """A script with a line of most kinds, over a map of an epoch."""
     group = f"{pool}.0"
     asked = ["epoch", f"up {group}", "count 0", "groups 0", f"fup {group}", "follow 1", f"fkept {group}", "fdump"]
-    changes = [f'change {{"base":{epoch},"down":[0]}}', f'change {{"base":{epoch + 1},"weight":[[1,0]]}}']
+    changes = [
+        f'change {{"base":{epoch},"down":[0]}}',
+        f'change {{"base":{epoch + 1},"weight":[[1,0]]}}',
+        'apply {"up":[0]}',
+    ]
     return "\n".join([*asked, *changes, f"balance {pool} 8", "dump", ""])
 
 

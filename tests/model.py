@@ -3,8 +3,8 @@
 
     tests/model.py MAP SCRIPT
 
-answers the lines `up`, `count`, `groups`, `epoch`, `dump`, `balance` and `change`, as far as nothing in them is
-refused. The answers of examples/balance and of the larger map of forty_osds.py come from here; `model_placements.py`
+answers the lines `up`, `count`, `groups`, `epoch`, `dump`, `balance`, `change` and `apply`, as far as nothing in them
+is refused. The answers of examples/balance and of the larger map of forty_osds.py come from here; `model_placements.py`
 holds it against the placements that Ceph's own tools gave.
 """
 
@@ -490,7 +490,7 @@ def answer(cluster: Cluster, line: str) -> str:
         found = [group for group in cluster.groups() if int(rest) in cluster.up(group)]
         text = len(found) if word == "count" else "[" + ",".join(map(group_text, found)) + "]"
         return f"{word} {cluster.epoch} {rest} {text}"
-    if word == "change":
+    if word in ("change", "apply"):
         evals = cluster.change(json.loads(rest))
         return f"ok {cluster.epoch} evals {evals}"
     pool, limit = map(int, rest.split())

@@ -93,7 +93,7 @@ MAP_KEYS = " ".join(
     {*maps.Map.__annotations__, *maps.Pool.__annotations__, *maps.Osd.__annotations__}
     - {"version", "epoch", "id", "kind", "rule", "size", "up", "weight"}
 )
-LINES = "up count groups epoch dump change await balance follow fup fkept fdump"
+LINES = "up count groups epoch dump change apply await balance follow fup fkept fdump"
 WORDS_OF_LISTS = {
     "A kind of bucket": ("uniform list tree straw2", 0.75),
     "A line of a script": (LINES, 0.6),

@@ -58,6 +58,18 @@ class PythonMonitor(Case):
                     call()
                 self.assertEqual((refused.exception.name, refused.exception.number), (name, number))
 
+    def test_changes_without_a_base(self) -> None:
+        """Changes without a base by two sessions in turn: each is made at the epoch that it finds; one with a base is
+        refused."""
+        value = example()
+        with Monitor(value, self.program, sessions=2, stock=True, timeout=SECONDS) as monitor:
+            for turn in range(10):
+                one = monitor.sessions[turn % 2]
+                self.assertEqual(one.apply(**{"down" if turn % 2 else "up": [2]}), (value["epoch"] + turn + 1, 0))
+            with self.assertRaises(Refused) as refused:
+                monitor.apply(base=monitor.epoch())
+            self.assertEqual((refused.exception.name, refused.exception.number), ("BadField", 11))
+
     def test_sessions(self) -> None:
         """Four clients in four threads over one monitor ask and change at random: all answers are those of one
         history."""

@@ -144,6 +144,8 @@ class Writer:
         kind = self.rng.random()
         if self.is_stock and self.rng.random() < 0.1:
             return "change " + json.dumps({"base": base, **self.forest_part()}, separators=(",", ":"))
+        if self.is_stock and self.rng.random() < 0.1:
+            return "apply " + json.dumps(self.state(), separators=(",", ":"))
         part = self.state() if is_safe or kind < 0.4 else self.exceptions() if kind < 0.85 else self.pools_part()
         return "change " + json.dumps({"base": base, **part}, separators=(",", ":"))
 
@@ -164,7 +166,8 @@ def scripts(
     seed: int, sessions: int, lines: int, pools: int, groups: int, is_stock: bool = False
 ) -> tuple[Json, list[list[str]]]:
     """A map and a script for each session; a quarter of a script's lines or so try to change the map. Under `--stock`
-    some hosts are straw2 buckets, and a change in ten brings other hosts."""
+    some hosts are straw2 buckets, a change in ten brings other hosts, and one in ten has no base, which no map refuses.
+    """
     writer = Writer(seed, pools, groups, is_stock)
     bases = CLASSES * (lines // 4 // STRETCH) * STRETCH
     return a_map(pools, groups, STOCK if is_stock else KINDS), [
@@ -383,6 +386,17 @@ class Soak(Case):
     def test_stock(self) -> None:
         """8 sessions of 200 lines under `--stock`."""
         self.soak(6, (8, 200, 6, 16), (100, 1400), is_stock=True)
+
+    def test_writers(self) -> None:
+        """16 sessions change the map without a base: none is refused, and each change has an epoch of its own."""
+        scripts = [[f'apply {{"{word}":[{place}]}}' for word in ("down", "up") * 50] for place in range(16)]
+        with tempfile.TemporaryDirectory() as folder:
+            words, _ = run(self.program, pathlib.Path(folder), scripts, a_map(1, 1), is_stock=True)
+            output = subprocess.run(words, capture_output=True, text=True, timeout=SECONDS, check=True).stdout
+        made = [[re.sub("^ok ([0-9]+) evals 0$", r"\1", answer) for answer in found] for found in sessions_of(output)]
+        epochs = [[int(epoch) if epoch.isdigit() else 0 for epoch in found] for found in made]
+        self.assertEqual(sorted(sum(epochs, [])), list(range(FIRST + 1, FIRST + 1601)))
+        self.assertEqual(epochs, [sorted(found) for found in epochs])
 
     def test_large_pools(self) -> None:
         """4 sessions under `--stock` over three pools of 65,536 groups, where a pool that comes may bring as many more,

@@ -402,7 +402,7 @@ class WideLimits(Case):
         dump = "dump " + json.dumps(after, separators=(",", ":"), sort_keys=True)
         lines = [f"{word} {name}" for name, _ in sets for word in ("up", "fup")]
         lines += ["change " + written(parts), "count 5", "count 6", "dump", "follow", f"fup {names[-1]}"]
-        lines += ["change " + written({"base": 2, "down": [5]}), "count 5", f"up {names[-1]}"]
+        lines += ["apply " + written({"down": [5]}), "count 5", f"up {names[-1]}"]
         found = [(name, f"[{','.join(map(str, places))}] {places[0]}") for name, places in sets]
         wanted = [f"{word} 1 {name} {places}" for name, places in found for word in ("up", "fup")]
         wanted += [

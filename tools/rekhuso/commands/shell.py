@@ -38,6 +38,7 @@ HELP = {
     "epoch": "epoch: the epoch of the map",
     "dump": "dump: the map as one line of JSON",
     "change": 'change JSON: commits a change, as change {"base":1,"down":[2]}',
+    "apply": 'apply JSON: commits a change to the map as it is, as apply {"down":[2]}; under --stock',
     "await": "await N: waits until the epoch is at least N; nobody else changes the map here",
     "balance": "balance POOL LIMIT: plans at most LIMIT moves of groups of a pool, and commits them; under --stock "
     "also balance POOL LIMIT APART [[OSD,CARRIED],..], both in 256ths of a group: by how much two OSDs must differ, "

@@ -167,6 +167,13 @@ class Session:
         _, epoch, _, evals = self.one(f"change {written(value)}").split(" ")
         return Made(int(epoch), int(evals))
 
+    def apply(self, **parts: object) -> Made:
+        """Commits a change to whatever map it finds: its parts by their keys, as `down=[2]`. No other session's change
+        makes it stale. A map under `stock` alone takes it.
+        """
+        _, epoch, _, evals = self.one(f"apply {written(parts)}").split(" ")
+        return Made(int(epoch), int(evals))
+
     def balance(self, pool: int, most: int = 1024, apart: int = 256, carried: Mapping[int, int] | None = None) -> Moved:
         """Plans moves of groups of a pool, at most so many, and commits them. In 256ths of a group: by how much two
         OSDs must differ for a move between them, and how much an OSD counts as having beside its groups of the pool.
