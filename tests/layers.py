@@ -92,8 +92,8 @@ class Layers(unittest.TestCase):
         self.assertGreater(len(list(graphlib.TopologicalSorter(below).static_order())), 100)
 
     def test_names(self) -> None:
-        """A name that a module takes from another is of one module, and a class has its name alone, so it means one thing;
-        but for `together.py`, which is one file by itself."""
+        """A name that a module takes from another is of one module, and a class has its name alone, so it means one
+        thing; but for `together.py`, which is one file by itself."""
         homes: dict[str, set[pathlib.Path]] = defaultdict(set)
         for _, other, name in imports():
             homes[name].add(other)

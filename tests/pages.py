@@ -84,8 +84,8 @@ LISTS = {
     "A refusal": {"Refusal": "refusal/src/refused.rt"},
 }
 NOT_LOOKED_FOR = {"Memory"}
-# The words of each list, but for those that mean other things elsewhere, and what share of them a file of the tools, the
-# tests, the benches or the pages has at least between quotes or by itself if it is a place of the list.
+# The words of each list, but for those that mean other things elsewhere, and what share of them a file of the tools,
+# the tests, the benches or the pages has at least between quotes or by itself if it is a place of the list.
 KEY_OF_MAP = "A key of a map"
 TYPES_OF_KEYS = r"\b(?:MapParts|OsdPart|PoolPart|OsdState)\b"
 CHANGE_KEYS = " ".join({*PARTS} - {"up"})

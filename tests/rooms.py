@@ -24,43 +24,18 @@ OSDS, SECONDS = 5, 300
 # A map of fewer groups has one room, and so has a pool of fewer. There are as many rooms as processors, 16 at most.
 MANY, LARGE, MOST = 4096, 1024, 16
 # The processors that there are, the threads that are refused, and whether rooms get any.
-WAYS = (
-    ("on all processors", None, 0),
-    ("on one processor", 1, 0),
-    ("with threads refused", None, 7),
-)
+WAYS = (("on all processors", None, 0), ("on one processor", 1, 0), ("with threads refused", None, 7))
 
 
 def a_map(sizes: tuple[int, ...]) -> Json:
     """A map with pools of so many groups, over OSDs of which one is down and one half out."""
     pools = [
-        {
-            "id": number,
-            "kind": "replicated",
-            "pg_num": groups,
-            "pgp_num": groups,
-            "rule": 0,
-            "size": 2,
-        }
+        {"id": number, "kind": "replicated", "pg_num": groups, "pgp_num": groups, "rule": 0, "size": 2}
         for number, groups in enumerate(sizes, 1)
     ]
-    osds = [
-        {
-            "exists": True,
-            "id": osd,
-            "up": osd != 4,
-            "weight": 32768 if osd == 2 else 65536,
-        }
-        for osd in range(OSDS)
-    ]
+    osds = [{"exists": True, "id": osd, "up": osd != 4, "weight": 32768 if osd == 2 else 65536} for osd in range(OSDS)]
     items = [[osd, 65536 * (1 + osd % 3)] for osd in range(OSDS)]
-    values: Any = {
-        "buckets/0/items": items,
-        "buckets/0/kind": "list",
-        "max_osd": OSDS,
-        "osds": osds,
-        "pools": pools,
-    }
+    values: Any = {"buckets/0/items": items, "buckets/0/kind": "list", "max_osd": OSDS, "osds": osds, "pools": pools}
     return with_values(MAPS["one device"], values)
 
 
@@ -79,44 +54,21 @@ class Rooms(Case):
         """The library that counts and refuses threads, built into a folder."""
         self.needs("gcc", shutil.which("gcc") is not None)
         library = folder / "refuse_threads.so"
-        words = [
-            "gcc",
-            "-shared",
-            "-fPIC",
-            "-O1",
-            "-o",
-            library,
-            HERE / "refuse_threads.c",
-            "-ldl",
-        ]
+        words = ["gcc", "-shared", "-fPIC", "-O1", "-o", library, HERE / "refuse_threads.c", "-ldl"]
         subprocess.run(words, check=True)
         return library
 
     def opened(
-        self,
-        files: list[pathlib.Path],
-        library: pathlib.Path,
-        most: int | None,
-        refused: int,
+        self, files: list[pathlib.Path], library: pathlib.Path, most: int | None, refused: int
     ) -> tuple[str, str]:
         """What a run answers, and a letter for each thread that it asks for."""
         marks = files[0].parent / "threads"
         marks.unlink(missing_ok=True)
-        given = {
-            "LD_PRELOAD": str(library),
-            "REFUSE_THREADS": str(refused),
-            "THREADS": str(marks),
-        }
+        given = {"LD_PRELOAD": str(library), "REFUSE_THREADS": str(refused), "THREADS": str(marks)}
         words: list[Any] = [self.program, *files]
         if most is not None:
             words = ["taskset", "-c", str(min(os.sched_getaffinity(0))), *words]
-        done = subprocess.run(
-            words,
-            env={**os.environ, **given},
-            timeout=SECONDS,
-            capture_output=True,
-            text=True,
-        )
+        done = subprocess.run(words, env={**os.environ, **given}, timeout=SECONDS, capture_output=True, text=True)
         self.assertEqual((done.returncode, done.stderr), (0, ""))
         return done.stdout, marks.read_text() if marks.exists() else ""
 
@@ -136,10 +88,7 @@ class Rooms(Case):
             wanted = "".join(line + "\n" for line in ["session 1", *model.answers(value, lines)])
             with tempfile.TemporaryDirectory() as name:
                 folder = pathlib.Path(name)
-                library, files = self.library(folder), [
-                    folder / "map",
-                    folder / "script",
-                ]
+                library, files = self.library(folder), [folder / "map", folder / "script"]
                 files[0].write_text(written(value))
                 files[1].write_text("".join(line + "\n" for line in lines))
                 for way, most, refused in WAYS:

@@ -1,5 +1,5 @@
-"""Whole maps by what a test cares for. The keys of a map, an OSD and a pool stand here once, for all tests that make maps
-of their own."""
+"""Whole maps by what a test cares for. The keys of a map, an OSD and a pool stand here once, for all tests that make
+maps of their own."""
 
 from __future__ import annotations
 

@@ -5,8 +5,8 @@ may not be made: status 1 where there is one.
     works.py [ROOT]
 
 A run of a rule needs a `Work`, which counts it by a clause, and its searches by a token (a `Tip` of tip). A state makes
-rooms, each with a `Work`, once, when it is opened. It lends them to all that runs rules, and clauses of the state say how
-many runs they have counted together. Runs with another work, and searches with another token, would be counted
+rooms, each with a `Work`, once, when it is opened. It lends them to all that runs rules, and clauses of the state say
+how many runs they have counted together. Runs with another work, and searches with another token, would be counted
 elsewhere, and no contract could tell. So each of these is made in the files that stand here, in one place of each, and
 in no other.
 """
