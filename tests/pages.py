@@ -24,6 +24,7 @@ OPTIONS_OF_OTHERS = {
     "--form",
     "--format",
     "--jobs",
+    "--list-axioms",
     "--long",
     "--only",
     "--reweight-item",

@@ -54,8 +54,8 @@ class Rooms(Case):
         """The library that counts and refuses threads, built into a folder."""
         self.needs("gcc", shutil.which("gcc") is not None)
         library = folder / "refuse_threads.so"
-        words = ["gcc", "-shared", "-fPIC", "-O1", "-o", library, HERE / "refuse_threads.c", "-ldl"]
-        subprocess.run(words, check=True)
+        source = HERE / "refuse_threads.c"
+        subprocess.run(["gcc", "-shared", "-fPIC", "-O1", "-o", library, source, "-ldl"], check=True)
         return library
 
     def opened(
