@@ -7,8 +7,8 @@ may not be made: status 1 where there is one.
 A run of a rule needs a `Work`, which counts it by a clause, and its searches by a token (a `Tip` of tip). A state makes
 rooms, each with a `Work`, once, when it is opened. It lends them to all that runs rules, and clauses of the state say
 how many runs they have counted together. Runs with another work, and searches with another token, would be counted
-elsewhere, and no contract could tell. So each of these is made in the files that stand here, in one place of each, and
-in no other.
+elsewhere, and no contract could tell. So each of these is made in the files that stand here, in one place of each with
+no loop round it, and in no other.
 """
 
 from __future__ import annotations
@@ -45,6 +45,10 @@ CALL = r"\b{0}>?\s*::\s*new\b"
 OTHER_NAME = r"\b{0}\s+as\b|\btype\s+\w+\s*=[^;]*\b{0}\b|\bimpl\b[^{{}};]*\bfor\b[^{{}};]*\b{0}\b"
 # A macro that makes whatever it is given.
 ANY_NAME = r"\$\w+\s*>?\s*::\s*new\b"
+# Where many are made, one for each room. Elsewhere no loop stands round the one call: in no function that makes it, and
+# in none of its file by which that one is called.
+MANY = ("pgtable/src/rooms.rt",)
+LOOP = r"\b(?:for|while|loop|for_each|from_fn|repeat\w*)\b"
 
 
 def texts_of(file: pathlib.Path) -> tuple[str, str]:
@@ -59,14 +63,38 @@ def times_in(file: pathlib.Path, pattern: str) -> int:
     return max(len(re.findall(pattern, text)) for text in texts_of(file))
 
 
+def functions_of(file: pathlib.Path) -> dict[str, str]:
+    """The functions of a file, each with its text up to the next, with no comments and no heads of an `impl`."""
+    text = re.sub(r"\bimpl\b[^{;]*", " ", texts_of(file)[1])
+    found: dict[str, str] = {}
+    for name, rest in re.findall(r"\bfn\s+(\w+)(.*?)(?=\bfn\s+\w+|\Z)", text, re.DOTALL):
+        found[name] = found.get(name, "") + rest
+    return found
+
+
+def is_repeated(file: pathlib.Path, call: str) -> bool:
+    """Whether a loop may stand round a call, or a function that calls itself."""
+    functions = functions_of(file)
+    asked = {name for name, text in functions.items() if re.search(call, text)}
+    seen: set[str] = set()
+    while asked - seen:
+        name = min(asked - seen)
+        seen.add(name)
+        if name != "new":
+            asked |= {other for other, text in functions.items() if re.search(rf"\b{name}\b", text)}
+    return any(re.search(LOOP if name == "new" else rf"{LOOP}|\b{name}\s*\(", functions[name]) for name in seen)
+
+
 def makers(root: pathlib.Path) -> Iterator[tuple[str, str, bool]]:
     """What is made in each file outside the crate that declares it, where it may be, and how often."""
     for file in sorted((root / "crates").glob("*/src/**/*.rt")):
         place = file.relative_to(root / "crates").as_posix()
         for what, (home, allowed) in MAKERS.items():
-            called = times_in(file, CALL.format(what))
+            call = CALL.format(what)
+            called = times_in(file, call)
             if called:
-                yield place, what, place in allowed and called == 1
+                once = called == 1 and (place in MANY or not is_repeated(file, call))
+                yield place, what, place in allowed and once
             if times_in(file, OTHER_NAME.format(what)) and not place.startswith(f"{home}/"):
                 yield place, f"name of its own for {what}", False
         if times_in(file, ANY_NAME):
@@ -79,7 +107,7 @@ def main() -> int:
     found = list(makers(root))
     wrong = [(place, what) for place, what, may_be in found if not may_be]
     for place, what in wrong:
-        print(f"crates/{place}: a {what} that tools/works.py does not allow there, or a second one", file=sys.stderr)
+        print(f"crates/{place}: a {what} that tools/works.py does not allow there, or more than one", file=sys.stderr)
     told = f"{len(wrong)} of them where none may be, or one too many"
     print(f"works: {len(found)} places that make one or bring one, {told}")
     return 1 if wrong else 0
