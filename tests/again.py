@@ -4,14 +4,16 @@ from __future__ import annotations
 
 import pathlib
 import random
+from collections.abc import Iterable
 from functools import partial
-from itertools import product
+from itertools import combinations, product
 from typing import Any
 
 from rekhuso.cluster.evenness import Spread
 from rekhuso.plans.at_rest import AtRest
 from rekhuso.plans.bounds import Measure
 from rekhuso.plans.cycles import without_cycles
+from rekhuso.plans.falling_order import Levels, Shift, falling, rise_of
 from rekhuso.plans.gains import gains
 from rekhuso.plans.least import FittingPlaces, least_for
 from rekhuso.plans.loads import STEP_PARTS
@@ -167,6 +169,42 @@ class PlansEnd(StockCase):
         own = [step for part in parts_in_order(StepOrder(spread, None, steps), 10**6, False) for step in part]
         self.assertEqual([step.group for step in own][0], "1.0")
         self.assertEqual(fullest_after(Measure(spread, None, {}, {}), own)[1:], [1.1, 1.0, 1.0])
+
+    def test_order_of_rings(self) -> None:
+        """Of small plans with rings an order is found in which the fullest OSD gets fuller by no step, of nine in ten
+        that have one, as trying all orders shows; no order that is found is another plan.
+        """
+        rng, there, found = random.Random(5), 0, 0
+        for _ in range(120):
+            share = {osd: rng.uniform(8, 20) for osd in range(4)}
+            has = {osd: own * rng.uniform(0.9, 1.2) for osd, own in share.items()}
+            ways = [(*rng.sample(range(4), 2), rng.uniform(0.1, 1.0)) for _ in range(6)]
+            shifts = {f"1.{at}": Shift([come], [go], size) for at, (go, come, size) in enumerate(ways)}
+
+            def full(taken: Iterable[str], has: dict[int, float] = has, own: dict[str, Shift] = shifts) -> float:
+                levels = dict(has)
+                for group in taken:
+                    levels[own[group].come[0]] += own[group].size
+                    levels[own[group].go[0]] -= own[group].size
+                return max(levels[osd] / share[osd] for osd in share)
+
+            end, levels = full(shifts), Levels(has, share, full(shifts))
+            for shift in shifts.values():
+                levels.move(shift, 1)
+            order = falling(levels, shifts)
+            self.assertEqual(sorted(order), sorted(shifts))
+            own = [max(full(order[:count]), end) for count in range(len(order) + 1)]
+            rises = [after - before for before, after in zip(own, own[1:])]
+            self.assertAlmostEqual(rise_of(Levels(has, share, end), map(shifts.__getitem__, order)), max(0.0, *rises))
+            tops = {frozenset(own): max(full(own), end) for at in range(7) for own in combinations(shifts, at)}
+            ends = {frozenset[str]()}
+            for _ in shifts:
+                more = ((taken, taken | {group}) for taken in ends for group in shifts.keys() - taken)
+                ends = {after for before, after in more if tops[after] <= tops[before] + 1e-9}
+            there += bool(ends)
+            found += bool(ends) and max(rises) <= 1e-9
+        self.assertGreater(there, 50)
+        self.assertGreater(found, 0.9 * there)
 
     def test_pools_at_rest(self) -> None:
         """Where it is known that a pool has no move there is none, whatever ways are open between OSDs that did not

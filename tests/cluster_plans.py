@@ -270,9 +270,10 @@ class Model:
 
 
 class LastPass:
-    """The definition of the last pass of a plan over a model that knows what its pools hold."""
+    """The definition of the last pass of a plan over a model that knows what its pools hold, and of the one by groups;
+    for room the last pass is the first, and does not keep groups as even as they are."""
 
-    def __init__(self, model: Model, wanted: list[int]) -> None:
+    def __init__(self, model: Model, wanted: list[int], is_room: bool) -> None:
         held = model.held or {}
         self.model, self.wanted = model, wanted
         self.sizes: dict[str, int] = {}
@@ -290,7 +291,7 @@ class LastPass:
                 self.want[osd] += sum(places) * Fraction(goal) / Fraction(sum(goals.values()))
         shares = [model.shares(pool, goals) for pool, goals in model.goals.items()]
         self.groups = {osd: sum((own[osd] for own in shares), Fraction(0)) for osd in model.weights}
-        self.start = self.measures(model.first)
+        self.start, self.even = self.measures(model.first), [] if is_room else self.measures(model.mapped)[:1]
         self.is_far, self.most, self.most_all = False, dict.fromkeys(model.places, Fraction(2)), Fraction(3)
 
     def go_far(self) -> None:
@@ -326,9 +327,11 @@ class LastPass:
 
     def stays_even(self, leaves: int, comes: int, groups: int, size: int) -> bool:
         """Whether by groups and by bytes all stays as even as before the plan, or gets no less even, where so much goes
-        from an OSD to another; asked for the sake of OSDs that stay far above their shares alone."""
-        now = self.measures(self.model.mapped) if self.is_far else []
-        for own, was, more, share in zip(now, self.start, (groups, size), (self.groups, self.want)):
+        from an OSD to another; asked for the sake of OSDs that stay far above their shares, and at first by groups
+        alone, which stay as even as before the pass."""
+        start = self.start if self.is_far else self.even
+        now = self.measures(self.model.mapped) if start else []
+        for own, was, more, share in zip(now, start, (groups, size), (self.groups, self.want)):
             parts = {comes: Fraction(more) / share[comes], leaves: -Fraction(more) / share[leaves]}
             scale = {osd: share[osd] if share is self.groups else Fraction(1) for osd in parts}
             after = {osd: own[osd][0] + part for osd, part in parts.items()}
@@ -405,8 +408,8 @@ class LastPass:
         return False
 
     def play(self) -> None:
-        """Makes the moves, until what is fullest beyond 1.05 cannot be made less full; and then, with pools further
-        from their shares, what is fullest beyond 1.1."""
+        """Makes the moves, until what is fullest beyond 1.05 cannot be made less full, also with groups less even than
+        before; and then, with pools further from their shares, what is fullest beyond 1.1."""
         stuck: set[int] = set()
         has_moved = False
         while any(self.want.values()):
@@ -416,7 +419,10 @@ class LastPass:
                 if not has_moved or not stuck:
                     if self.is_far:
                         return
-                    self.go_far()
+                    if self.even:
+                        self.even = []
+                    else:
+                        self.go_far()
                 stuck, has_moved = set(), False
                 continue
             full = max(left, key=lambda osd: (self.ratio(osd), -osd))
@@ -424,6 +430,59 @@ class LastPass:
                 has_moved = True
             else:
                 stuck.add(full)
+
+    def fall(self, pool: int, leaves: int, comes: int, size: int) -> Fraction:
+        """By how much the squares fall of the pool, twice those of all groups, and ten times those of the data in
+        places of the mean size, where so much of a pool goes from an OSD to another."""
+        model = self.model
+        places, whole = sum(model.places.values()), sum(
+            held * model.sizes[int(group.split(".")[0])] for group, held in self.sizes.items()
+        )
+        away = {osd: model.deviations(pool)[osd] for osd in (leaves, comes)}
+        groups = {osd: sum((model.deviations(own)[osd] for own in model.places), Fraction(0)) for osd in away}
+        data = {osd: (self.load[osd] - self.want[osd]) * places / whole if whole else Fraction(0) for osd in away}
+        held, found = Fraction(size * places, whole) if whole else Fraction(0), Fraction(0)
+        for weight, own, more in ((1, away, Fraction(1)), (2, groups, Fraction(1)), (10, data, held)):
+            after = {leaves: own[leaves] - more, comes: own[comes] + more}
+            found += weight * sum(own[osd] ** 2 - after[osd] ** 2 for osd in own)
+        return found
+
+    def has_evened(self, full: int, least: Fraction) -> bool:
+        """Whether a group has gone from an OSD, by the move by which the squares fall most, and by more than the least;
+        to one that has more than a group less above its shares, and does not get beyond 1.05 by that."""
+        model = self.model
+        above = {osd: sum((model.deviations(own)[osd] for own in model.places), Fraction(0)) for osd in self.want}
+        ways = sorted(
+            (-self.fall(pool, full, osd, size), pool, osd, size)
+            for pool in self.wanted
+            for osd in self.want
+            if above[full] - above[osd] > 1 and osd not in model.closed(pool)
+            if self.keeps([pool], full, osd, self.most[pool])
+            for size in self.on(pool, full)
+            if not size or self.load[osd] + size <= Fraction(21, 20) * self.want[osd]
+        )
+        for fall, pool, osd, size in ways:
+            group = self.group(pool, size, full, osd) if -fall > least else None
+            if group is not None:
+                self.put(group, full, osd)
+                return True
+        return False
+
+    def play_groups(self, deviation: Fraction) -> None:
+        """Makes the moves of the pass by groups, from the OSD that is most above its shares of all pools."""
+        stuck, has_moved, model = set[int](), False, self.model
+        while True:
+            above = {osd: sum((model.deviations(own)[osd] for own in model.places), Fraction(0)) for osd in self.want}
+            left = [osd for osd in self.want if osd not in stuck and above[osd] > 0 and self.want[osd]]
+            if left:
+                full = max(left, key=lambda osd: (above[osd], -osd))
+                is_evened = self.has_evened(full, max(4 * deviation - 2, Fraction(1)))
+                has_moved |= is_evened
+                stuck |= set() if is_evened else {full}
+            elif not has_moved or not stuck:
+                return
+            else:
+                stuck, has_moved = set(), False
 
 
 class Measured:
@@ -528,7 +587,10 @@ class ClusterPlans(StockCase):
             if case < 16:
                 model.play(wanted, round(256 * Fraction(deviation or 1)))
             if held:
-                LastPass(model, wanted).play()
+                last = LastPass(model, wanted, case >= 16)
+                last.play()
+                if case < 16:
+                    last.play_groups(Fraction(deviation or 1))
             self.assertEqual([parts["id"] for parts in told["pools"]], sorted(wanted))
             moves += told["moving"]["places"]
             if not told["taken_out"]:
@@ -538,7 +600,7 @@ class ClusterPlans(StockCase):
                 stay += len(stays)
                 expected = {group: own for group, own in model.mapped.items() if group not in stays}
                 self.assertEqual({group: sets[group] for group in sets if group not in stays}, expected, (case, words))
-        self.assertLessEqual(stay, 6, (same, moves))
+        self.assertLessEqual(stay, 8, (same, moves))
         self.assertGreaterEqual(same, 10, (same, moves))
         self.assertGreater(moves, 50, (same, moves))
 

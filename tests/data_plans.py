@@ -69,12 +69,12 @@ class DataPlans(StockCase):
         def measured(kept: list[str]) -> tuple[float, list[float]]:
             sets = self.sets(*(with_commands(value, [line for line in kept if is_of(line, value)]) for value in maps))
             whole = Measured(maps, sets, of_place)
-            found = [(at, whole.has[at], whole.share[at]) for at in (0, 1)]
+            found = [(weight, whole.has[at], whole.share[at]) for at, weight in enumerate((2, 10 / mean**2))]
             pools = [Measured([dict(value, pools=[pool])], sets, of_place) for value in maps for pool in value["pools"]]
-            found += [(0, own.has[0], own.share[0]) for own in pools]
+            found += [(1, own.has[0], own.share[0]) for own in pools]
             sums = [
-                sum((has.get(osd, 0) - share) ** 2 for osd, share in shares.items()) * (10 / mean**2 if at else 1)
-                for at, has, shares in found
+                sum((has.get(osd, 0) - share) ** 2 for osd, share in shares.items()) * weight
+                for weight, has, shares in found
             ]
             return sum(sums), [max(whole.ratios(at)) for at in (0, 1)]
 

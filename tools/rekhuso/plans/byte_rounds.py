@@ -1,4 +1,6 @@
-"""The rounds of a plan by data: the scheme over all pools, and the last pass, in the order that is asked for."""
+"""The rounds of a plan by data: the scheme over all pools, the last pass and the one by groups, in the order that is
+asked for.
+"""
 
 from __future__ import annotations
 
@@ -8,6 +10,7 @@ from dataclasses import dataclass
 
 from ..values import SLOTS
 from .byte_aims import ByteAims
+from .group_pass import GroupPass
 from .hindrances import hindrances
 from .json_forms import HindranceParts
 from .last_pass import LastPass
@@ -25,15 +28,19 @@ class Passed:
     stays: dict[int, list[HindranceParts]]
 
 
-def last_pass(planner: Planner, aims: ByteAims, tell: Callable[[str], None]) -> tuple[list[str], LastPass]:
-    """Makes the moves of the last pass: the groups that have been moved, in the order in which they first were, and
-    what lies where then.
+def last_pass(
+    planner: Planner, aims: ByteAims, is_first: bool, tell: Callable[[str], None]
+) -> tuple[list[str], LastPass]:
+    """Makes the moves of the last pass, and where it does not come first those of the one by groups: the groups that
+    have been moved, in the order in which they first were, and what lies where then.
     """
     with ExitStack() as stack:
         for live in planner.lives:
             stack.enter_context(live.all_up())
-        found = LastPass(planner, aims)
+        found = LastPass(planner, aims, not is_first)
         found.play(tell)
+        if not is_first:
+            GroupPass(found, planner.half / 256).play(tell)
     return list(dict.fromkeys(found.moves)), found
 
 
@@ -45,9 +52,9 @@ def planned_by_data(
     """
     first = list[str]()
     if is_room or most is not None:
-        first, found = last_pass(planner, aims, tell)
+        first, found = last_pass(planner, aims, True, tell)
         if is_room or most is None or len(first) >= most:
             return Passed(first, first, hindrances(found))
     planner.play(tell)
-    more, found = last_pass(planner, aims, tell)
+    more, found = last_pass(planner, aims, False, tell)
     return Passed(first, first + more, hindrances(found))

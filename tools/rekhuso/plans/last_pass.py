@@ -3,9 +3,10 @@ move after the other, until the fullest is near its share.
 
 A move is that of a place, of any pool, by which the sum of want * (ratio - 1) ** 2 over all OSDs falls most, and after
 which the OSD that gets it is less full than the other was before. So the fullest OSD never gets fuller, and any
-beginning of the pass is a plan. Where no move is left that takes something from an OSD, two groups change places. Pools
-stay near their shares, and so do all pools together; for the sake of OSDs that stay far above theirs they may get
-further, as long as nothing gets less even than it was before the plan.
+beginning of the pass is a plan. Where no move is left that takes something from an OSD, two groups change places.
+Behind the scheme the pass leaves groups as even as the scheme has left them, as far as that goes. Then pools stay near
+their shares, and so do all pools together; for the sake of OSDs that stay far above theirs they may get further, as
+long as nothing gets less even than it was before the plan.
 """
 
 from __future__ import annotations
@@ -76,8 +77,10 @@ class LastPass:
     above its shares of all pools.
     """
 
-    def __init__(self, planner: Planner, aims: ByteAims) -> None:
-        """Takes the pools as they have been planned, and what their groups hold and OSDs are to hold."""
+    def __init__(self, planner: Planner, aims: ByteAims, is_even: bool) -> None:
+        """Takes the pools as they have been planned, what their groups hold and OSDs are to hold, and whether groups
+        stay as even as they are at first.
+        """
         self.laid, self.aims, self.full, self.above = planner.laid, aims, Fullness(aims.want), dict[int, int]()
         self.pools = {own.number: own for live in planner.lives for own in pools_in(live, planner.left)}
         for number, own in self.pools.items():
@@ -90,7 +93,8 @@ class LastPass:
         free = [own for own in movable if not own.is_barred() and not own.is_left_alone()]
         self.movable = [own for own in free if own.blocks]
         self.most, self.most_all = dict.fromkeys(self.pools, POOL), ALL_POOLS
-        self.is_far, self.gauges = False, list[Gauge]()
+        self.is_far, self.is_even = False, is_even
+        self.gauges = [Gauge(self.groups_now(), None, False)] if is_even else []
         self.ranked: list[int] = []
         self.kept: dict[tuple[int, int], dict[int, set[int]]] = {}
         self.kept_closed: dict[tuple[int, int], set[int]] = {}
@@ -112,21 +116,35 @@ class LastPass:
     def stays_even(self, leaves: int, comes: int, groups: int, size: int) -> bool:
         """Whether by groups and by bytes all stays as even as it was before the plan, or gets no less even than it is,
         where so many groups more, and so much more, go from an OSD to another than come back; asked for the sake of
-        OSDs far above their shares alone.
+        OSDs far above their shares, and at first, by groups alone and as even as it was before the pass.
         """
         return all(gauge.lets(leaves, comes, own) for gauge, own in zip(self.gauges, (groups, size / BYTE_PARTS)))
 
+    def groups_now(self) -> Spread:
+        """What OSDs have in groups."""
+        shares = sums_by_osd({number: own.live.goals[number] for number, own in self.pools.items()})
+        return Spread(sums_by_osd({number: self.laid[number].counts for number in self.pools}), shares)
+
     def gauges_now(self) -> list[Gauge]:
         """How even the cluster is by groups and by bytes, beside how even it was before the plan."""
-        before = {number: own.live.before for number, own in self.pools.items()}
-        counts, shares = (
-            sums_by_osd({number: own.counts_in[number] for number, own in before.items()}),
-            sums_by_osd({number: own.live.goals[number] for number, own in self.pools.items()}),
-        )
-        groups, used = Gauge(Spread(counts, shares), None, False), Gauge(self.aims.spread(), None, True)
-        groups.put(sums_by_osd({number: self.laid[number].counts for number in self.pools}))
+        before, now = {number: own.live.before for number, own in self.pools.items()}, self.groups_now()
+        counts = sums_by_osd({number: own.counts_in[number] for number, own in before.items()})
+        groups, used = Gauge(Spread(counts, now.share), None, False), Gauge(self.aims.spread(), None, True)
+        groups.put(now.has)
         used.put({osd: load / BYTE_PARTS for osd, load in self.full.load.items()})
         return [groups, used]
+
+    def go_on(self) -> bool:
+        """Whether the pass goes on once no more can be taken from the OSDs above their shares: with groups less even
+        than they were, and then for those that stay far above their shares.
+        """
+        if self.is_even:
+            self.is_even, self.gauges = False, []
+            return True
+        if self.is_far or self.full.fullest() <= 1 + FAR:
+            return False
+        self.go_far()
+        return True
 
     def go_far(self) -> None:
         """From now on it is for the OSDs that stay far above their shares, and for their sake pools may get further
@@ -306,19 +324,16 @@ class LastPass:
 
     def play(self, tell: Callable[[str], None]) -> None:
         """Makes moves until the fullest OSD from which anything can be taken is near its share. What nothing could be
-        taken from is tried again at the end, where there have been moves since; then once more, with pools that may get
-        further from their shares.
+        taken from is tried again at the end, where there have been moves since; then once more, with groups that get
+        less even by that, and with pools that may get further from their shares.
         """
         stuck: set[int] = set()
         since = len(self.moves)
         while True:
             full = self.fullest(stuck)
             if full is None:
-                is_done = not stuck or since == len(self.moves)
-                if is_done and (self.is_far or self.full.fullest() <= 1 + FAR):
+                if (not stuck or since == len(self.moves)) and not self.go_on():
                     return
-                if is_done:
-                    self.go_far()
                 stuck, since = set(), len(self.moves)
                 continue
             tell(f"last pass: {len(self.moves)} moves, osd.{full} at {self.full.ratio(full):.2f} of its share")

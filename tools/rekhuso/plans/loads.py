@@ -24,8 +24,9 @@ GROUP_PARTS, MEAN_PARTS = 1 << 64, 1 << 32
 STEP_PARTS = GROUP_PARTS >> 8
 # The bits of two such steps, half of which is what a pool without data carries.
 HALF_BITS = STEP_PARTS.bit_length()
-# How many times as much as evenness by groups evenness by data counts.
-WEIGHT = 10
+# How many times as much as evenness by groups evenness by data counts; and behind the scheme that by groups over all
+# pools, as much as that of a pool.
+WEIGHT, SUM_WEIGHT = 10, 2
 
 
 @dataclass(frozen=True, **SLOTS)
@@ -146,12 +147,13 @@ class Loads:
             own[osd] += parts
         self.add(number, more)
 
-    def carried(self, number: int, half: int) -> dict[int, int]:
-        """What each OSD that may have groups of a pool carries from the others, in 256ths of a group: to the nearest,
-        and at most so many.
+    def carried(self, number: int, half: int, osds: Iterable[int] | None = None) -> dict[int, int]:
+        """What each OSD that may have groups of a pool carries from the others, or each of some of these, in 256ths of
+        a group: to the nearest, and at most so many.
         """
         place, squared, own = self.pools[number].place, MEAN_PARTS * MEAN_PARTS, self.own[number]
         groups, data = self.groups, self.data
+        own = own if osds is None else {osd: own[osd] for osd in osds}
         if place:
             one, weight = STEP_PARTS * (2 * squared + WEIGHT * place * place), WEIGHT * place
             each = ((groups[osd] - more) * squared + weight * (data[osd] - more * place) for osd, more in own.items())
@@ -168,6 +170,12 @@ class Loads:
         for osd, more in pool.offset.items():
             carried[osd] += more
         return with_closed(pool, carried, half) if pool.closed else carried
+
+    def some_above(self, number: int, half: int, osds: Iterable[int]) -> dict[int, int]:
+        """How far each of some OSDs counts as above its share of a pool, in parts, where it takes groups at all."""
+        own, closed = self.later.get(number, self.own[number]), self.pools[number].closed
+        free = [osd for osd in osds if osd in own and osd not in closed]
+        return {osd: own[osd] + parts * STEP_PARTS for osd, parts in self.carried(number, half, free).items()}
 
     def above(self, number: int, loads: Mapping[int, int]) -> dict[int, int]:
         """How far each OSD counts as above its share of a pool, in parts: with what it carries, as the program is told

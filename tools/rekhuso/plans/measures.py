@@ -40,8 +40,11 @@ def counts_after(before: dict[int, int], steps: Iterable[PlanStep]) -> Counter[i
     """How many groups of a pool each OSD has once steps are taken."""
     counts = Counter(before)
     for step in steps:
-        counts.update(step.comes())
-        counts.subtract(step.leaves())
+        leaves, comes = step.moved
+        for osd in comes:
+            counts[osd] += 1
+        for osd in leaves:
+            counts[osd] -= 1
     return counts
 
 
@@ -60,11 +63,12 @@ class Measures:
         self.shares = {number: self.lives[number].goals[number] for number in self.pools}
         self.sizes = None if aims is None else aims.groups
         self.wanted = sums_by_osd(self.shares)
+        self.before = Spread(sums_by_osd(self.counts), self.wanted)
         self.weights = {osd: own for live in lives for osd, own in live.before.items.items() if osd >= 0}
 
     def groups(self, counts: Mapping[int, Mapping[int, int]]) -> Spread:
         """What OSDs have in groups, by the counts of each pool."""
-        return Spread(sums_by_osd(counts), self.wanted)
+        return self.before if counts is self.counts else Spread(sums_by_osd(counts), self.wanted)
 
     def groups_in(self, number: int) -> Spread:
         """The same of one pool."""

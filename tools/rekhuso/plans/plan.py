@@ -34,7 +34,7 @@ from .least import least_of
 from .measures import Measures, counts_after, pool_spread
 from .mend import mended
 from .pair_plans import PairPlanner
-from .parts import measure_of_steps, order_of_steps, ordered_parts
+from .parts import even_parts, first_steps, measure_of_steps, order_of_steps, ordered_parts
 from .pool_plans import PoolPlan, pool_plans
 from .rounds import Live, MOST_MOVES, Planner, SMALL_CLUSTER, left_out
 from .spare import spared
@@ -256,7 +256,13 @@ def outcome_of(
     steps = [step for part in parts for step in part]
     of_pool = steps_by_pool(steps)
     after = {number: counts_after(own, of_pool.get(number, [])) for number, own in measures.counts.items()}
-    pools = [pool_parts(measures, number, made, after[number], of_pool.get(number, [])) for number in wanted]
+    left = dict[int, dict[str, Reason]]()
+    for group, why in made.left.items():
+        left.setdefault(group_key(group)[0], {})[group] = why
+    pools = [
+        pool_parts(measures, number, replace(made, left=left.get(number, {})), after[number], of_pool.get(number, []))
+        for number in wanted
+    ]
     ends = measures.told(measures.counts), measures.told(after, steps)
     data = measures.data_parts(steps, made.stays)
     return Outcome(parts, taken_out, pools, *ends, measures.largest(), stopped, data, None)
@@ -332,8 +338,25 @@ def as_one(passes: list[Pass], steps: list[PlanStep]) -> PlannedSteps:
     return PlannedSteps(made.refusals, left, plans, steps, first, passes[-1].made.stays, True)
 
 
+def later_commands(lives: list[Live], wish: Wish, measures: Measures, steps: list[PlanStep]) -> int:
+    """How many commands a plan has over these steps, where others are left for the sake of nearly full OSDs."""
+    own = [after(live, steps) for live in lives]
+    own_wish = wish if wish.data is None else replace(wish, data=moved_data(wish.data, measures.sizes, steps))
+    return command_count(planned_once(own, own_wish, silent)[0].steps)
+
+
 def planned(lives: list[Live], wish: Wish, tell: Callable[[str], None] = silent) -> Outcome:
     """Plans pools of a cluster, and tells how far it is meanwhile."""
+    found, measures, is_stopped = planned_once(lives, wish, tell)
+    if is_stopped and wish.most == ALL and wish.until is None:
+        return replace(found, rest=later_commands(lives, wish, measures, found.steps))
+    return found
+
+
+def planned_once(lives: list[Live], wish: Wish, tell: Callable[[str], None]) -> tuple[Outcome, Measures, bool]:
+    """The same, by what it is measured, and whether steps are left for the sake of nearly full OSDs: what a plan over
+    it has is not known then.
+    """
     wanted = wanted_of(lives, wish)
     for live in lives:
         live.is_by_weight = wish.is_by_weight
@@ -344,21 +367,22 @@ def planned(lives: list[Live], wish: Wish, tell: Callable[[str], None] = silent)
     least = least_of(measures, measures.pools.keys() - set(wanted) | made.refusals.keys())
     if wish.is_alone:
         alone = [own for part in batches(steps, wish.batch) for own in limited(part, wish.busy)]
-        return replace(outcome_of(measures, wanted, made, alone, taken_out, {}), least=least)
+        return replace(outcome_of(measures, wanted, made, alone, taken_out, {}), least=least), measures, False
     order = order_of_steps(measures, steps, made.first, wish.nearfull)
     order.limit(wish.busy)
-    parts, measure = ordered_parts(order, wish.most, wish.batch), measure_of_steps(measures, steps, wish.nearfull)
-    parts = parts if wish.until is None else until(parts, measure, wish.until)
+    parts, measure = ordered_parts(order, wish.batch), measure_of_steps(measures, steps, wish.nearfull)
+    parts = even_parts(measures, order, parts, wish.batch) if order.left else parts
+    parts = first_steps(parts, wish.most) if wish.until is None else until(parts, measure, wish.until)
     found = outcome_of(measures, wanted, made, parts, taken_out, order.stopped())
-    return replace(found, rest=rest, measure=measure, worth=worth_of(measure, found.steps), least=least)
+    found = replace(found, rest=rest, measure=measure, worth=worth_of(measure, found.steps), least=least)
+    return found, measures, bool(order.left)
 
 
 def pool_parts(
     measures: Measures, number: int, made: PlannedSteps, after: dict[int, int], steps: list[PlanStep]
 ) -> PlanParts:
-    """What is told of a pool's plan."""
-    live, plan, shares = measures.lives[number], made.plans.get(number), measures.shares[number]
-    left = {group: why for group, why in made.left.items() if group_key(group)[0] == number}
+    """What is told of a pool's plan, of which these are the groups that are left out."""
+    live, plan, shares, left = measures.lives[number], made.plans.get(number), measures.shares[number], made.left
     return {
         "id": number,
         "name": named(live.names, "pools", number),

@@ -41,6 +41,8 @@ from .steps import changed_groups, in_old_order
 MOST_MOVES = 1024
 # How many rounds there are at most, and how many moves are tried from the fullest OSD.
 MOST_ROUNDS, TRIED = 12, 64
+# How many OSDs, those with most and those with fewest groups, are looked at first for whether a pool may have a move.
+ENDS = 64
 # Up to how many pools, times the OSDs, the fullest OSD is lowered once all pools are at rest.
 SMALL_CLUSTER = 1 << 14
 # Why a pool of several blocks gets no plan, as the program says it.
@@ -250,10 +252,20 @@ class Planner:
 
     def may_move(self, number: int, told: PoolLoads) -> bool:
         """Whether a pool may have a move, beside what the others lay on OSDs."""
-        live = self.live_of[number]
-        if number in self.refusals or not (live.has_one_block(live.pools[number]) or self.goes_by_pairs(number)):
+        if number in self.refusals or not self.is_planned(number):
             return False
         return self.at_rest.has_move(number, told.above, self.laid[number].counts)
+
+    def is_seen(self, number: int, osds: list[int]) -> bool:
+        """Whether some OSDs show already that a pool may have a move, of which nothing is known."""
+        if number in self.refusals or not self.is_planned(number) or number in self.at_rest.found:
+            return False
+        return self.at_rest.has_move(number, self.loads.some_above(number, self.half, osds), self.laid[number].counts)
+
+    def is_planned(self, number: int) -> bool:
+        """Whether the rule of a pool is one by which a plan can be made."""
+        live = self.live_of[number]
+        return live.has_one_block(live.pools[number]) or self.goes_by_pairs(number)
 
     def goes_by_pairs(self, number: int) -> bool:
         """Whether the rule of a pool has several blocks by which its plan can be made."""
@@ -265,10 +277,12 @@ class Planner:
         None where no pool has any.
         """
         self.loads = Loads(self.laid)
-        for pool in self.order:
-            if self.plan(pool, 1):
-                return {other for other in self.order if self.may_move(other, self.told(other))}
-        return set()
+        if not any(self.plan(pool, 1) for pool in self.order):
+            return set()
+        groups = self.loads.groups
+        ranked = sorted(groups, key=groups.__getitem__)
+        ends = ranked if len(ranked) <= 2 * ENDS else ranked[:ENDS] + ranked[-ENDS:]
+        return {other for other in self.order if self.is_seen(other, ends) or self.may_move(other, self.told(other))}
 
     def plan(self, number: int, most: int = MOST_MOVES) -> int:
         """Plans a pool from where it is, where it may have a move, and tells how many moves were made; the program may

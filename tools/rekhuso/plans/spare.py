@@ -14,7 +14,7 @@ from heapq import heappop
 
 from ..cluster.evenness import Spread
 from .last_pass import FAR, NEAR
-from .loads import WEIGHT
+from .loads import SUM_WEIGHT, WEIGHT
 from .measures import Measures
 from .mend import Mender, ROUNDING, Squares
 from .steps import PlanStep
@@ -42,7 +42,7 @@ class Spare(Mender):
         """By how much the sum rises where a group's step is taken out."""
         step = self.left[group]
         groups, data = self.gauges[0].gain(step, -1), self.data.gain(step, -1)
-        return self.pools[step.pool].gain(step, -1) + groups + self.weight * data
+        return self.pools[step.pool].gain(step, -1) + SUM_WEIGHT * groups + self.weight * data
 
     def may_go(self, step: PlanStep) -> bool:
         """Whether no OSD gets too full where a step is taken out, and nothing less even than before the plan."""

@@ -53,6 +53,7 @@ class StepOrder:
         """Takes what the OSDs have before the steps, what a place of each group counts (else 1), the steps, the groups
         whose steps come first, and up to where OSDs may be filled, if that is known.
         """
+        self.given = spread, sizes, steps, first, limits
         self.steps, self.share, self.has = steps, spread.share, dict(spread.has)
         self.first, self.limits = {at for at, step in enumerate(steps) if step.group in first}, limits or {}
         self.sizes = [1.0 if sizes is None else sizes[step.group] for step in steps]
@@ -63,11 +64,12 @@ class StepOrder:
                 self.leaving.setdefault(osd, []).append(at)
         self.left = {at for at, osds in enumerate(self.go) if osds}
         self.high: dict[int, float] = {}
+        self.shut: set[int] = set()
         self.busy = Busy(NO_LIMIT)
         self.partakers = [partakers(step.was, come) for step, come in zip(steps, self.come)]
         self.tops = [(-self.full(osd), osd) for osd in spread.osds()]
         heapify(self.tops)
-        self.rises = 0
+        self.rises, self.has_risen = 0, False
         self.level = {osd: self.full(osd) for osds in self.come + self.go for osd in osds}
         self.bound, end = 0.0, dict(self.has)
         for at in range(len(steps)):
@@ -96,6 +98,27 @@ class StepOrder:
         size = self.sizes[at]
         return max((self.ratio(self.high.get(osd, 0) + size, osd) for osd in self.come[at]), default=0.0)
 
+    def in_order(self, rank: Sequence[int]) -> list[list[PlanStep]]:
+        """Takes steps in the order of these numbers, in parts that end before the first which may not come; one that
+        may come into none stands alone.
+        """
+        found, is_alone = list[list[PlanStep]](), True
+        for at in rank:
+            if is_alone or not self.is_allowed(at):
+                self.begin()
+                is_alone = not self.is_allowed(at)
+                found.append([])
+            self.take(at)
+            found[-1].append(self.steps[at])
+        return found
+
+    def of(self, steps: list[PlanStep]) -> StepOrder:
+        """Some of the steps, before any is taken."""
+        spread, sizes, _, first, limits = self.given
+        found = StepOrder(spread, sizes, steps, first, limits)
+        found.limit(self.busy.most)
+        return found
+
     def limit(self, most: MostBusy) -> None:
         """OSDs and hosts take part in no more moves of a part than this from now on."""
         self.busy = Busy(most)
@@ -111,8 +134,8 @@ class StepOrder:
 
     def begin(self) -> None:
         """A part begins."""
-        self.high, self.busy = dict(self.has), Busy(self.busy.most)
-        self.bound = max(Spread(self.has, self.share).fullest(), self.end, EVEN) + ROUNDING
+        self.high, self.busy, self.shut = dict(self.has), Busy(self.busy.most), set()
+        self.bound = max(self.fullest(), EVEN) + ROUNDING
 
     def over(self, at: int) -> list[int]:
         """The OSDs that a step would fill too far, beside all that comes in the part."""
@@ -121,14 +144,19 @@ class StepOrder:
 
     def next_from(self, osd: int, first: bool) -> int | None:
         """The step from an OSD that comes next in the part, or None where none may come: that to the emptiest OSD, of
-        those that may come and by which the fullest OSD gets no fuller.
+        those that may come and by which the fullest OSD gets no fuller. One that may not come now may not come later in
+        the part.
         """
-        level, come = self.level, self.come
-        self.leaving[osd] = [at for at in self.leaving[osd] if at in self.left]
-        own = [at for at in self.leaving[osd] if at in self.first] if first else self.leaving[osd]
-        ranked = sorted([(max([level[other] for other in come[at]], default=0.0), at) for at in own])
-        most = self.fullest() + ROUNDING if self.rises < MOST_RISES else float("inf")
-        return next((at for _, at in ranked if self.filled(at) <= most and self.is_allowed(at)), None)
+        level, come, shut = self.level, self.come, self.shut
+        own = self.leaving[osd] = [at for at in self.leaving[osd] if at in self.left]
+        free = [at for at in own if at not in shut and (at in self.first or not first)]
+        most = (self.fullest() + ROUNDING if self.rises < MOST_RISES else float("inf")) if free else 0.0
+        for _, at in sorted([(max([level[other] for other in come[at]], default=0.0), at) for at in free]):
+            if self.filled(at) <= most:
+                if self.is_allowed(at):
+                    return at
+                shut.add(at)
+        return None
 
     def take(self, at: int) -> None:
         """Takes a step."""
@@ -178,6 +206,7 @@ class StepOrder:
             if at is None and not heap and not has_taken:
                 at = self.rising(first)
                 self.rises += 1
+                self.has_risen |= at is not None
             if at is not None:
                 yield at
                 has_taken = True

@@ -47,15 +47,15 @@ class PlanStep:
 
     def places_leave(self) -> list[int]:
         """The OSDs from which places of it go; in an erasure pool one may have got another place of it."""
-        return leaving(self.was, self.now, self.is_erasure)
+        return leaving(self.was, self.now, True) if self.is_erasure else self.moved[0]
 
     def places_come(self) -> list[int]:
         """The OSDs to which places of it come, and data."""
-        return coming(self.was, self.now, self.is_erasure)
+        return coming(self.was, self.now, True) if self.is_erasure else self.moved[1]
 
     def is_moving(self) -> bool:
         """Whether its data moves."""
-        return has_moved(self.was, self.now, self.is_erasure)
+        return has_moved(self.was, self.now, True) if self.is_erasure else bool(self.moved[0] or self.moved[1])
 
     def undone(self) -> PlanStep:
         """The step back."""

@@ -7,7 +7,6 @@ from collections.abc import Mapping
 from typing import NamedTuple
 
 from ..faults import Refused
-from .maps import written
 
 
 class Up(NamedTuple):
@@ -65,8 +64,8 @@ def balance_line(pool: int, most: int, apart: int = 256, carried: Mapping[int, i
     """The line by which a pool is balanced: in the short form where two OSDs must differ by no more than a group and
     nothing is carried.
     """
-    pairs = [[osd, parts] for osd, parts in sorted((carried or {}).items()) if parts]
-    return f"balance {pool} {most}" + (f" {apart} {written(pairs)}" if pairs or apart != 256 else "")
+    pairs = [f"[{osd},{parts}]" for osd, parts in sorted((carried or {}).items()) if parts]
+    return f"balance {pool} {most}" + (f" {apart} [{','.join(pairs)}]" if pairs or apart != 256 else "")
 
 
 def accepted_answer(answer: str) -> str:
