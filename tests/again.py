@@ -178,8 +178,8 @@ class PlansEnd(StockCase):
         for _ in range(120):
             share = {osd: rng.uniform(8, 20) for osd in range(4)}
             has = {osd: own * rng.uniform(0.9, 1.2) for osd, own in share.items()}
-            ways = [(*rng.sample(range(4), 2), rng.uniform(0.1, 1.0)) for _ in range(6)]
-            shifts = {f"1.{at}": Shift([come], [go], size) for at, (go, come, size) in enumerate(ways)}
+            ways = [rng.sample(range(4), 2) for _ in range(6)]
+            shifts = {f"1.{at}": Shift([come], [go], rng.uniform(0.1, 1)) for at, (go, come) in enumerate(ways)}
 
             def full(taken: Iterable[str], has: dict[int, float] = has, own: dict[str, Shift] = shifts) -> float:
                 levels = dict(has)
@@ -195,7 +195,8 @@ class PlansEnd(StockCase):
             self.assertEqual(sorted(order), sorted(shifts))
             own = [max(full(order[:count]), end) for count in range(len(order) + 1)]
             rises = [after - before for before, after in zip(own, own[1:])]
-            self.assertAlmostEqual(rise_of(Levels(has, share, end), map(shifts.__getitem__, order)), max(0.0, *rises))
+            told = rise_of(Levels(has, share, end), map(shifts.__getitem__, order))
+            self.assertAlmostEqual(told, max([0.0, *rises]))
             tops = {frozenset(own): max(full(own), end) for at in range(7) for own in combinations(shifts, at)}
             ends = {frozenset[str]()}
             for _ in shifts:
