@@ -141,6 +141,6 @@ class Measures:
             "bytes": None if used is None else used.fill(True),
             "room": None if used is None else self.room(used),
         }
-        if used is not None and self.aims is not None and self.aims.disks:
+        if used is not None and used.osds() and self.aims is not None and self.aims.disks:
             found["use"] = Spread(used.has, {osd: disk.size for osd, disk in self.aims.disks.items()}).use(used.osds())
         return found
