@@ -4,6 +4,7 @@ square of something is seen at once. Goals are ratios between sizes, which no ot
 from __future__ import annotations
 
 import json
+import os
 import pathlib
 import re
 import shutil
@@ -16,8 +17,19 @@ from tests.whole_maps import ON_HOSTS, map_of, osds_of, pool_of, rule_of
 
 # The seconds that a run under valgrind may take.
 LIMIT = 300
-# How often a line stands in the shorter and in the longer script of a measure.
-FEW, MANY = 20, 120
+# How often a line stands in the script of a measure, and one that costs much.
+MANY, HEAVY = 120, 12
+# A filling that repeats one instruction is counted byte by byte; without it as many instructions as are run.
+HONEST = {"GLIBC_TUNABLES": "glibc.cpu.x86_rep_stosb_threshold=10000000"}
+# Parts of changes that are made in turn: of a state, of a reweight, of a pair of the first group.
+STATES = ('"down":[5]', '"up":[5]')
+WEIGHTS = ('"weight":[[5,32768]]', '"weight":[[5,65536]]')
+PAIRS = ('"new_items":[["1.0",[[29,31]]]]', '"new_items":[["1.0",[[28,31]]]]')
+
+
+def changes(count: int, *parts: str) -> list[str]:
+    """So many changes of the parts in turn, one upon the other."""
+    return [f'change {{"base":{1 + at},{parts[at % len(parts)]}}}' for at in range(count)]
 
 
 def cluster(osds: int, pools: int, groups: int = 16) -> Map:
@@ -50,25 +62,40 @@ class Sizes(Case):
         script.write_text("".join(f"{line}\n" for line in lines), "utf-8")
         words = ["valgrind", "--tool=callgrind", "--callgrind-out-file=/dev/null", str(self.program)]
         words += ["--stock", "--journal", "65536", str(map_file), str(script)]
-        done = subprocess.run(words, capture_output=True, text=True, timeout=LIMIT)
+        done = subprocess.run(words, capture_output=True, text=True, timeout=LIMIT, env={**os.environ, **HONEST})
         self.assertEqual(done.returncode, 0, done.stderr[-300:])
-        self.assertNotIn("\nerr ", done.stdout)
+        self.assertNotIn("\nerr ", f"\n{done.stdout}")
         return int(re.findall(r"Collected : (\d+)", done.stderr)[0])
 
     def cost(self, stated: Map, lines: list[str]) -> float:
-        """The instructions of a line, where so many stand in a script."""
-        return (self.counted(stated, lines[:MANY]) - self.counted(stated, lines[:FEW])) / (MANY - FEW)
+        """The instructions of a line, where the script of so many is compared with that of a sixth."""
+        few = len(lines) // 6
+        return (self.counted(stated, lines) - self.counted(stated, lines[:few])) / (len(lines) - few)
+
+    def compare(self, many: Map, few: Map, lines: dict[str, list[str]], most: dict[str, float]) -> None:
+        """Each line costs at most so many times as much over the one map as over the other."""
+        for name, own in lines.items():
+            with self.subTest(name=name):
+                self.assertLess(self.cost(many, own) / self.cost(few, own), most[name])
 
     def test_pools(self) -> None:
-        """A line that names one pool, or none, costs little more where there are 256 pools than where there is one"""
-        one, many = cluster(32, 1), cluster(32, 256)
-        downs = [f'change {{"base":{1 + at},"{("down", "up")[at % 2]}":[5]}}' for at in range(MANY)]
-        for name, lines, most in (("up", ["up 1.7"] * MANY, 1.3), ("down", downs, 1.1)):
-            with self.subTest(name=name):
-                self.assertLess(self.cost(many, lines), most * self.cost(one, lines))
+        """A line that names one pool, or none, costs little more where there are 256 pools than where there is one; a
+        pair is put among the patches of all pools."""
+        lines = {"up": ["up 1.7"] * MANY, "down": changes(MANY, *STATES), "pair": changes(MANY, *PAIRS)}
+        self.compare(cluster(32, 256), cluster(32, 1), lines, {"up": 1.3, "down": 1.1, "pair": 3.5})
+
+    def test_groups(self) -> None:
+        """What evaluates all groups costs as they do, and not as their square: 16 times as many cost less than 20 times
+        as much, for a reweight and where the map is opened."""
+        many, few = cluster(32, 256), cluster(32, 16)
+        self.compare(many, few, {"weight": changes(HEAVY, *WEIGHTS)}, {"weight": 20})
+        with self.subTest(name="opening"):
+            self.assertLess(self.counted(many, []) / self.counted(few, []), 20)
 
     def test_osds(self) -> None:
-        """What a plan of one group costs grows with the OSDs, and not with their square: 16 times as many cost less
-        than 40 times as much"""
-        few, many = (self.cost(cluster(osds, 1, 1), ["balance 1 16"] * MANY) for osds in (256, 4096))
-        self.assertLess(many, 40 * few)
+        """A line that names a group or an OSD costs little more where there are 16 times as many OSDs. A pair, for which
+        a rule draws each host, and a plan of one group cost as they do, and not as their square."""
+        lines = {"up": ["up 1.0"] * MANY, "down": changes(MANY, *STATES), "pair": changes(MANY, *PAIRS)}
+        lines["balance"] = ["balance 1 16"] * HEAVY
+        most = {"up": 1.3, "down": 1.3, "pair": 20, "balance": 40}
+        self.compare(cluster(4096, 1, 1), cluster(256, 1, 1), lines, most)
