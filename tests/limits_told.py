@@ -118,7 +118,7 @@ TOLD: list[tuple[str, str, str]] = [
     ("docs/FORMATS.md", "MAP SCRIPT..` takes 1 to {} scripts.", "serving.MAX_SCRIPTS"),
     ("docs/FORMATS.md", "how many changes the journal holds: 1 to {}, and", "epochlog.MAX_CAPACITY"),
     ("docs/FORMATS.md", "serves at most {} scripts as `osdmapd` does", "serving.MAX_SCRIPTS"),
-    ("docs/FORMATS.md", "(`--keep N`, 0 to {};", "osdmapstore.MOST_KEPT"),
+    ("docs/FORMATS.md", "`--keep N` (0 to {};", "osdmapstore.MOST_KEPT"),
     ("docs/CEPH.md", "as one map has at most {} pools", "mapparts.MAX_POOLS"),
     ("docs/CEPH.md", "A round has at most {} moves a pool", "balancer.MAX_MOVES"),
     (

@@ -48,11 +48,12 @@ CHANGES: list[dict[str, Any]] = [
 ]
 LAST = 1 + len(CHANGES)
 LINES = "".join(f"change {json.dumps({'base': base, **change})}\n" for base, change in enumerate(CHANGES, 1))
-# The two tables, as the page of the format has them.
+# The two tables of the older form, and that of what a store notes of itself, as the page of the format has them.
 TABLES = [
     ("journal", "CREATE TABLE journal (epoch INTEGER PRIMARY KEY, change TEXT NOT NULL) STRICT"),
     ("map", "CREATE TABLE map (epoch INTEGER PRIMARY KEY, text TEXT NOT NULL) STRICT"),
 ]
+ABOUT = ("store", "CREATE TABLE store (life INTEGER PRIMARY KEY, keep INTEGER NOT NULL) STRICT")
 MISSING, FOREIGN = "there is no store at this path", "the file is not a store"
 UNOPENED, DAMAGED = "the file cannot be opened", "the store is damaged, or another program has written it"
 NOBODY = 65534
@@ -218,6 +219,9 @@ class StoreFiles(StoreCase):
             "one table": [journal],
             "tables that are not strict": [journal.removesuffix(" STRICT"), map_.removesuffix(" STRICT")],
             "a third table": [journal, map_, "create table other (x)"],
+            "a third table that may say nothing": [journal, map_, ABOUT[1].replace(" NOT NULL", "")],
+            "a third table alone": [ABOUT[1]],
+            "a fourth table": [journal, map_, ABOUT[1], "create table other (x)"],
             "an index": [journal, map_, "create index of on journal (change)"],
             "a view": [journal, map_, "create view of as select * from map"],
             "a trigger": [journal, map_, "create trigger of after insert on map begin delete from journal; end"],
@@ -293,20 +297,90 @@ class StoreFiles(StoreCase):
         self.answered(LAST, self.whole())
 
     def test_keep(self) -> None:
-        """An open leaves the file as it is, unless it has more changes than twice those that are to be kept: then so
-        many are left, and the first map is the one before them."""
+        """An open leaves the rows as they are, unless there are more than twice those that are to be kept: then so many
+        are left, and the first map is the one before them. Asked for the same again it leaves the file as it is."""
         lines = LINES.splitlines()
         for keep in (len(lines), 3, 2, 1, 0):
             with self.subTest(keep=keep):
                 self.five()
-                before = settled(self.store).read_bytes()
+                settled(self.store)
                 self.assertEqual(self.ran("--keep", keep, self.store), Done(0, f"epoch {LAST}\n", ""))
                 found, gone = held(self.store), len(lines) - keep if len(lines) > 2 * keep else 0
                 self.assertEqual(found.first, (1 + gone, self.played(EXAMPLE, lines[:gone])[-1]))
                 self.assertEqual(found.rows, [(epoch, row(epoch)) for epoch in range(2 + gone, LAST + 1)])
-                if not gone:
-                    self.assertEqual(self.store.read_bytes(), before)
+                self.assertEqual(self.noted()[1], keep)
+                before = self.store.read_bytes()
+                self.assertEqual(self.ran("--keep", keep, self.store), Done(0, f"epoch {LAST}\n", ""))
+                self.assertEqual(self.store.read_bytes(), before)
                 self.answered(LAST, self.whole())
+
+    def noted(self, store: pathlib.Path | None = None) -> tuple[int, int]:
+        """What a store notes of itself, by sqlite3, which is given a copy: the number of its life, and how many changes
+        a start leaves."""
+        with opened(copied(store or self.store, self.folder / "copy")) as database:
+            ((life, keep),) = database.execute("select life, keep from store").fetchall()
+            return life, keep
+
+    def test_keep_is_the_stores(self) -> None:
+        """How many changes a start leaves belongs to the store: it is noted as it is told, also of a store that is
+        begun, and holds for each later start with a script; one that only looks changes no byte of the file."""
+        lines = LINES.splitlines()
+        self.assertEqual(self.ran("--keep", 2, "--begin", EXAMPLE, self.store, "-", text=LINES).error, "")
+        self.assertEqual((self.noted()[1], len(held(self.store).rows)), (2, 5))
+        for options, kept, left in (
+            ([], 2, 5),
+            (["-"], 2, 2),
+            (["--keep", 1], 1, 2),
+            (["-"], 1, 2),
+            (["--keep", 0], 0, 0),
+            (["--keep", 7], 7, 0),
+        ):
+            with self.subTest(options=options):
+                before = self.store.read_bytes()
+                done = self.ran(*options, self.store) if options[:1] != ["-"] else self.ran(self.store, "-")
+                self.assertEqual((done.status, done.output.splitlines()[0], done.error), (0, f"epoch {LAST}", ""))
+                self.assertEqual((self.noted()[1], len(held(self.store).rows)), (kept, left))
+                if not options:
+                    self.assertEqual(self.store.read_bytes(), before)
+        self.assertEqual(held(self.store).first, (LAST, self.played(EXAMPLE, lines)[-1]))
+
+    def test_keep_of_the_older_form(self) -> None:
+        """A store of the older form has no place for that number: it holds for the one start."""
+        self.made(*(text for _, text in TABLES))
+        with opened(self.store) as database:
+            database.execute("insert into map values (1, ?)", (model.Cluster(example()).written(),))
+            database.executemany("insert into journal values (?, ?)", [(n, row(n)) for n in range(2, LAST + 1)])
+        for words, left in ((["--keep", 2, self.store], 2), ([self.store, "-"], 2), (["--keep=0", self.store], 0)):
+            done = self.ran("--life", *words)
+            self.assertEqual((done.status, done.output.splitlines()[0], done.error), (0, f"epoch {LAST}", ""))
+            self.assertNotIn("life", done.output)
+            self.assertEqual(len(held(self.store).rows), left)
+        with opened(copied(self.store, self.folder / "copy")) as database:
+            names = database.execute("select name, sql from sqlite_schema order by name").fetchall()
+            self.assertEqual(names, TABLES)
+
+    def test_life(self) -> None:
+        """Each store that is begun has a number, which `--life` tells behind the epoch and which no change and no start
+        makes another; a copy has the same one, and a copy that is to go on by itself another."""
+        lives = set()
+        for name in ("store", "copy-1", "copy-2"):
+            store = self.folder / name
+            self.assertEqual(self.ran("--begin", EXAMPLE, store, "-", text=LINES).error, "")
+            lives.add(self.noted(store)[0])
+            told = f"epoch {LAST}\nlife {self.noted(store)[0]}\n"
+            for words in ([], ["--keep", 1], ["--keep", 3]):
+                self.assertEqual(self.ran("--life", *words, store), Done(0, told, ""))
+            answers = self.ran("--life", store, "-", text="epoch\n").output
+            self.assertEqual(answers, f"{told}session 1\nepoch {LAST}\n")
+        self.assertEqual(len(lives), 3)
+        self.assertTrue(all(0 <= life < 1 << 53 for life in lives))
+        for options, count in (([], 3), (["--restore"], 4)):
+            to = self.folder / f"made-{count}"
+            self.assertEqual(self.ran("--backup", to, *options, self.store), Done(0, f"epoch {LAST}\n", ""))
+            lives.add(self.noted(to)[0])
+            self.assertEqual((len(lives), self.noted(to)[1]), (count, 3))
+            self.assertEqual(held(to), held(self.store))
+            self.assertEqual(self.ran("--life", to).output, f"epoch {LAST}\nlife {self.noted(to)[0]}\n")
 
     def test_looking(self) -> None:
         """A start without a script cuts nothing off, however many changes there are, and leaves the file as it is; one
@@ -321,6 +395,7 @@ class StoreFiles(StoreCase):
             database.executemany(
                 "insert into journal values (?, ?)", [(epoch, f"plain {text}") for epoch, text in changes]
             )
+        # The older form, in which the number of a start holds for that one alone.
         starts: list[tuple[list[object], int]] = [([self.store], more), (["--keep", more, self.store, "-"], more)]
         for words, left in [*starts, ([self.store, "-"], most)]:
             with self.subTest(words=len(words)):
@@ -391,12 +466,13 @@ class StoreFiles(StoreCase):
     # What sqlite3 reads
 
     def test_read_by_sqlite(self) -> None:
-        """sqlite3 finds the store sound, and in it the two tables, the first map and a row for each change; also once
+        """sqlite3 finds the store sound, and in it the three tables, the first map and a row for each change; also once
         it was opened again."""
         self.five()
         with opened(copied(self.store, self.folder / "copy")) as database:
             self.assertEqual(database.execute("pragma integrity_check").fetchall(), [("ok",)])
-            self.assertEqual(database.execute("select name, sql from sqlite_schema order by name").fetchall(), TABLES)
+            names = database.execute("select name, sql from sqlite_schema order by name").fetchall()
+            self.assertEqual(names, [*TABLES, ABOUT])
             self.assertEqual(database.execute("pragma journal_mode").fetchall(), [("wal",)])
         found = held(self.store)
         self.assertEqual(found.first, (1, model.Cluster(example()).written()))
@@ -479,12 +555,15 @@ class StoreFiles(StoreCase):
         yield first, (written({**example(), "epoch": 2}),), "row 2: StaleEpoch"
 
     def test_epochs_that_are_none(self) -> None:
-        """A row of an epoch below 0, two first maps, and none, are damage."""
+        """A row of an epoch below 0, two first maps, and none, are damage; so it is of what a store notes of itself."""
         for text in (
             "update journal set epoch = -1 where epoch = 2",
             "insert into map values (2, 'x')",
             "delete from map",
             "update map set epoch = -1",
+            "delete from store",
+            "insert into store values (-1, 1)",
+            "update store set keep = -1",
         ):
             with self.subTest(text=text):
                 self.five()

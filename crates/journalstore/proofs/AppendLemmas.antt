@@ -23,7 +23,7 @@ use Rattle.sqlite.specs.Listing.{understood}
 use Rattle.sqlite.specs.Effect.{Database}
 use Rattle.sqlite.specs.State.{State, mode_of, Executes, ExecutesIn, IsNotRun, IsUnchanged, IsRolledBack, Fails, CommitsBy, shows_rows, text_of}
 use Rattle.sqlite.proofs.Callers.{IsPlain, command_of, statement_of, runs_as, one_step}
-use Rattle.journalstore.specs.Tables.{journal_table, store_schema, stored_row, insert_text}
+use Rattle.journalstore.specs.Tables.{Form, bare, noted, IsOfStore, journal_table, schema_of, stored_row, insert_text}
 use Rattle.journalstore.specs.Stores.{IsSettled}
 
 -- the journal has the row of this epoch in its place, and the first maps are as they were
@@ -49,14 +49,16 @@ abbrev command : Command
 command = Insert 0 (Values terms 3)
 
 -- the statement of an append is read as an insert of one row into the journal: the epoch, a missing value and the text
-insert_is : command_of (understood store_schema insert_text) ≡ Insert 0 (Values terms 3)
+insert_is : (f : Form) → command_of (understood (schema_of f) insert_text) ≡ Insert 0 (Values terms 3)
 unfolding understood everything
-insert_is = refl
+insert_is bare = refl
+insert_is noted = refl
 
 -- it has no RETURNING, and does not read the time
-insert_plain : IsPlain (understood store_schema insert_text)
+insert_plain : (f : Form) → IsPlain (understood (schema_of f) insert_text)
 unfolding understood everything
-insert_plain = (refl, refl)
+insert_plain bare = (refl, refl)
+insert_plain noted = (refl, refl)
 
 -- a choice between a value and the same value is that value
 either : (b : Bool) (x : Value) → cond b x x ≡ x
@@ -83,10 +85,10 @@ same_value : {B E : Type 0} {a b : B} → ◌≡◌ {A = Result B E} (Ok a) (Ok 
 same_value e = cc
 
 -- an append that goes through keeps the schema of a store, and puts its row into the journal alone
-does : (old : State) (n : ℤ) (change text : List ℕ) (tally : Tally) (after : Database) → old.now.schema ≡ store_schema
+does : (f : Form) (old : State) (n : ℤ) (change text : List ℕ) (tally : Tally) (after : Database) → old.now.schema ≡ schema_of f
     → Does old.step_limit (mode_of old) (Int n ∷ Text change ∷ []) old.now text None command (Ok (tally, after))
-    → (after.schema ≡ store_schema) × Appends n change old.now.trees after.trees
-does old n change text tally after has h =
+    → (after.schema ≡ schema_of f) × Appends n change old.now.trees after.trees
+does bare old n change text tally after has h =
     let params = Int n ∷ Text change ∷ [] in
     let db = old.now.trees in
     let done = went (subst (λ s. Does old.step_limit (mode_of old) params (record old.now { schema = s }) text None command (Ok (tally, after))) has h) in
@@ -95,7 +97,25 @@ does old n change text tally after has h =
     let written = went (went given.2).2 in
     let counted = went written.2 in
     let trees : done.0.trees ≡ written.0 = ap (λ (it : Written). it.trees) (same_value counted.2) ∙ same_value counted.1 in
-    let step = one_step store_schema _ db written.0 (edit_of db journal_table [] Chosen 0 given.0) refl written.1 in
+    let step = one_step (schema_of bare) _ db written.0 (edit_of db journal_table [] Chosen 0 given.0) refl written.1 in
+    let edit : edited db (edit_of db journal_table [] Chosen 0 given.0) ≡ put_row (stored_row n change) (db 0) = ap (λ all. edited db (edit_of db journal_table [] Chosen 0 all)) given.1.1 ∙ rw (cast_int n, cast_null) in
+    let same : after.trees ≡ written.0 = ap (λ (d : Database). d.trees) now ∙ trees in (
+      ap (λ (d : Database). d.schema) now,
+      record {
+        journal = ap (λ (t : Trees). t 0) same ∙ step.rows ∙ edit;
+        maps = ap (λ (t : Trees). t 1) same ∙ step.tables.1.0 (λ e. omega (arith, e));
+      },
+    )
+does noted old n change text tally after has h =
+    let params = Int n ∷ Text change ∷ [] in
+    let db = old.now.trees in
+    let done = went (subst (λ s. Does old.step_limit (mode_of old) params (record old.now { schema = s }) text None command (Ok (tally, after))) has h) in
+    let now = ap (λ (p : Tally × Database). p.1) (same_value (went (went done.2).2).2) in
+    let given = went done.1 in
+    let written = went (went given.2).2 in
+    let counted = went written.2 in
+    let trees : done.0.trees ≡ written.0 = ap (λ (it : Written). it.trees) (same_value counted.2) ∙ same_value counted.1 in
+    let step = one_step (schema_of noted) _ db written.0 (edit_of db journal_table [] Chosen 0 given.0) refl written.1 in
     let edit : edited db (edit_of db journal_table [] Chosen 0 given.0) ≡ put_row (stored_row n change) (db 0) = ap (λ all. edited db (edit_of db journal_table [] Chosen 0 all)) given.1.1 ∙ rw (cast_int n, cast_null) in
     let same : after.trees ≡ written.0 = ap (λ (d : Database). d.trees) now ∙ trees in (
       ap (λ (d : Database). d.schema) now,
@@ -110,17 +130,18 @@ pub appends : (old new : State) (n : ℤ) (change : List ℕ) (count : ℕ) → 
     → HasAppended n change old new × IsSettled new
 appends old new n change count settled h =
     let params = Int n ∷ Text change ∷ [] in
-    let w = runs_as insert_text params old new store_schema settled.schema command insert_is insert_plain count h in
-    let did = does old n change (statement_of insert_text (understood store_schema insert_text)) w.tally new.now settled.schema w.changed in
+    let form = settled.schema.0 in
+    let w = runs_as insert_text params old new (schema_of form) settled.schema.1 command (insert_is form) (insert_plain form) count h in
+    let did = does form old n change (statement_of insert_text (understood (schema_of form) insert_text)) w.tally new.now settled.schema.1 w.changed in
     let committed : new.committed ≡ new.now = rw settled.autocommit at w.shown.committed_is in (
       record { is_open = w.shown.is_open; appends = did.1; committed = committed },
-      record { autocommit = w.shown.mode ∙ settled.autocommit; schema = did.0; committed = committed },
+      record { autocommit = w.shown.mode ∙ settled.autocommit; schema = (form, did.0); committed = committed },
     )
 
 -- a store that shows and has committed what it did before, with no transaction under way, is settled as before
 kept_schema : (old new : State) → IsSettled old → new.now ≡ old.now → new.committed ≡ old.committed → new.in_transaction ≡ false → IsKept old new × IsSettled new
 kept_schema old new settled now committed mode =
-    (record { shown = now; committed = committed }, record { autocommit = mode; schema = ap (λ (d : Database). d.schema) now ∙ settled.schema; committed = committed ∙ settled.committed ∙ sym now })
+    (record { shown = now; committed = committed }, record { autocommit = mode; schema = subst (λ (d : Database). IsOfStore d.schema) (sym now) settled.schema; committed = committed ∙ settled.committed ∙ sym now })
 
 -- a call that changes nothing leaves what there was, settled
 unchanged : (old new : State) → IsSettled old → IsUnchanged old new → IsKept old new × IsSettled new
@@ -153,15 +174,16 @@ keeps sql params old new e settled running (inr h) = elim (cases_Bool (shows_row
 pub commits : (old : State) (n : ℤ) (change : List ℕ) → IsSettled old → (db : Trees) → CommitsBy insert_text (Int n ∷ Text change ∷ []) old db → Appends n change old.now.trees db
 unfolding CommitsBy
 commits old n change settled db h =
-    let known = sym h.1.is ∙ ap (λ s. understood s insert_text) settled.schema in
-    let bare = subst IsPlain (sym known) insert_plain in
-    let is : h.0.command ≡ command = ap command_of known ∙ insert_is in
+    let form = settled.schema.0 in
+    let known = sym h.1.is ∙ ap (λ s. understood s insert_text) settled.schema.1 in
+    let plain = subst IsPlain (sym known) (insert_plain form) in
+    let is : h.0.command ≡ command = ap command_of known ∙ insert_is form in
     elim h.2 [
       | inl ends ↦ elim ends.0 [
         | inl commit ↦ absurd (let e = sym is ∙ commit in cc)
         | inr release ↦ absurd (let e = sym is ∙ release.2 in cc)
       ]
       | inr write ↦
-          let did = does old n change (text_of insert_text h.0) write.1 write.2 settled.schema (rw (bare.0, bare.1, is) at write.3) in
+          let did = does form old n change (text_of insert_text h.0) write.1 write.2 settled.schema.1 (rw (plain.0, plain.1, is) at write.3) in
           subst (Appends n change old.now.trees) (sym write.5) did.1
     ]

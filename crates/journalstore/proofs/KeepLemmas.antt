@@ -1,5 +1,5 @@
 -- What the calls inside a transaction leave of the last commit.
-use Rattle.std.proofs.Common.{◌≡◌, ◌⊎◌, inl, inr, ℕ, List, Ok, Err, Some, None, Result, Option, IsTrue, sym, ap, subst, ◌∙◌}
+use Rattle.std.proofs.Common.{◌≡◌, ◌⊎◌, inl, inr, ℕ, false, List, Ok, Err, Some, None, Result, Option, IsTrue, sym, ap, subst, ◌∙◌}
 use Rattle.sqlite.specs.Order.{Row}
 use Rattle.sqlite.specs.declared.error.Error.{Error}
 use Rattle.sqlite_resolve.specs.declared.compiled.Compiled.{Compiled}
@@ -7,9 +7,10 @@ use Rattle.sqlite_schema.specs.declared.command.Returning.{Returning}
 use Rattle.sqlite.specs.Clock.{timed}
 use Rattle.sqlite.specs.Effect.{Database}
 use Rattle.sqlite.specs.Steps.{FailsToCommit}
-use Rattle.sqlite.specs.State.{State, KeepsCommit, IsUnchanged, IsRolledBack, Fails, IsNotRun, ExecutesInside, FailsToQuery, FailsToShow, IsTooLate}
+use Rattle.sqlite.specs.State.{State, Shows as Committed, KeepsCommit, IsUnchanged, IsRolledBack, Fails, IsNotRun, ExecutesInside, FailsToQuery, FailsToShow, IsTooLate}
+use Rattle.journalstore.specs.Tables.{IsOfStore}
 use Rattle.journalstore.specs.Texts.{Texts, StandsFor}
-use Rattle.journalstore.specs.Stores.{IsSettled, Shows}
+use Rattle.journalstore.specs.Stores.{IsSettled, IsWritten, Shows}
 
 -- a call that changes nothing commits nothing
 unchanged : (old new : State) → IsUnchanged old new → KeepsCommit old new
@@ -56,7 +57,7 @@ query_keeps sql params old new e (inr h) = unchanged old new h.5
 pub rolled_texts : (old last new : State) (t : Texts) → IsSettled old → StandsFor old.now.trees t → KeepsCommit old last → IsRolledBack last new → IsTrue new.is_open → Shows new t
 rolled_texts old last new t settled stands keeps r now =
     let back : new.now ≡ old.now = (r.undone now).0 ∙ keeps.committed (r.was_open now) ∙ settled.committed in record {
-      settled = record { autocommit = r.autocommit; schema = ap (λ (d : Database). d.schema) back ∙ settled.schema; committed = (r.undone now).1 ∙ sym (r.undone now).0 };
+      settled = record { autocommit = r.autocommit; schema = subst (λ (d : Database). IsOfStore d.schema) (sym back) settled.schema; committed = (r.undone now).1 ∙ sym (r.undone now).0 };
       stands = subst (λ (d : Database). StandsFor d.trees t) (sym back) stands;
     }
 
@@ -67,3 +68,14 @@ failed_texts old begun last new t e settled stands running same keeps inside (in
     let kept : KeepsCommit old last = record { was_open = λ was. sym running ∙ keeps.was_open was; committed = λ was. keeps.committed was ∙ same } in
     rolled_texts old last new t settled stands kept f.3 now
 failed_texts old begun last new t e settled stands running same keeps inside (inr h) now = absurd (let outside = h.1 in cc)
+
+-- a commit leaves the texts that the transaction has written
+pub committed_texts : (last new : State) (t : Texts) → IsWritten last t → Committed last new last.now last.now false → Shows new t
+committed_texts last new t written c = record {
+  settled = record {
+    autocommit = c.mode;
+    schema = subst (λ (d : Database). IsOfStore d.schema) (sym c.now_is) written.schema;
+    committed = c.committed_is ∙ sym c.now_is;
+  };
+  stands = subst (λ (d : Database). StandsFor d.trees t) (sym c.now_is) written.stands;
+}

@@ -6,8 +6,8 @@ use Rattle.sqlite.specs.Order.{Row}
 use Rattle.sqlite.specs.Tree.{Trees}
 use Rattle.sqlite.specs.Effect.{Database}
 use Rattle.sqlite.specs.State.{State, HasCleanDisk, Survives, Executes, CommitsBy, IsUnchanged}
-use Rattle.journalstore.specs.Tables.{insert_text}
-use Rattle.journalstore.specs.Texts.{Entry, Texts, begun_with, cut_to, with_change, IsAfter, StandsFor}
+use Rattle.journalstore.specs.Tables.{IsOfStore, insert_text}
+use Rattle.journalstore.specs.Texts.{Entry, Texts, begun_with, with_change, IsAfter, StandsFor}
 use Rattle.journalstore.specs.declared.reading.StoredText.{StoredText}
 use Rattle.journalstore.specs.declared.reading.StoredTexts.{StoredTexts}
 use Rattle.journalstore.specs.Read.{entry_read, texts_read}
@@ -45,18 +45,29 @@ beside_ok (Ok x) A P is both = both.1
 beside_ok (Err e) A P is both = absurd (let wrong : false ≡ true = is in cc)
 
 -- where a store kept texts, and a call that changes nothing finds it open, it holds them
-pub running_texts : (old new : State) (t : Texts) → LeavesCommit new → Survives old new (λ _. ⊥) → (HasCleanDisk new → IsUnchanged old new) → IsOf old t
+still_texts : (old new : State) (t : Texts) → LeavesCommit new → (HasCleanDisk new → HasCleanDisk old) → (HasCleanDisk new → IsUnchanged old new) → IsOf old t
     → IsRunning new × IsOf new t × LeavesOnly new (λ db. StandsFor db t)
-running_texts old new t law survives same of =
+still_texts old new t law early same of =
     let running : IsRunning new = λ clean. (same clean).0.is_open in
     let holds : IsOf new t = λ clean now.
     let u = (same clean).0 in
-    let shows = of (omega (arith, survives.clean, clean)) u.was_open in
+    let shows = of (early clean) u.was_open in
     record {
-      settled = record { autocommit = u.mode ∙ shows.settled.autocommit; schema = ap (λ (d : Database). d.schema) u.now_is ∙ shows.settled.schema; committed = u.committed_is ∙ shows.settled.committed ∙ sym u.now_is };
+      settled = record { autocommit = u.mode ∙ shows.settled.autocommit; schema = subst (λ (d : Database). IsOfStore d.schema) (sym u.now_is) shows.settled.schema; committed = u.committed_is ∙ shows.settled.committed ∙ sym u.now_is };
       stands = subst (λ (d : Database). StandsFor d.trees t) (sym u.now_is) shows.stands;
     } in
     (running, holds, leaves_held new t law running holds)
+
+-- so it is where the call may commit nothing
+pub running_texts : (old new : State) (t : Texts) → LeavesCommit new → Survives old new (λ _. ⊥) → (HasCleanDisk new → IsUnchanged old new) → IsOf old t
+    → IsRunning new × IsOf new t × LeavesOnly new (λ db. StandsFor db t)
+running_texts old new t law survives same of = still_texts old new t law (λ clean. omega (arith, survives.clean, clean)) same of
+
+-- where a store held texts, and a question was answered and changed nothing, it holds them
+pub held_still : (old new : State) (t : Texts) → LeavesCommit new → (HasCleanDisk new → HasCleanDisk old) → (HasCleanDisk new → IsOfStore old.now.schema → IsUnchanged old new)
+    → IsRunning old × IsOf old t × LeavesOnly old (λ db. StandsFor db t) → IsRunning new × IsOf new t × LeavesOnly new (λ db. StandsFor db t)
+held_still old new t law early same holds =
+    still_texts old new t law early (λ clean. same clean (holds.1 (early clean) (holds.0 (early clean))).settled.schema) holds.1
 
 -- a call that commits nothing leaves a crash what it left
 pub leaves_still : (old new : State) (Kind : Trees → Type 0) → Survives old new (λ _. ⊥) → LeavesOnly old Kind → LeavesOnly new Kind
@@ -69,10 +80,9 @@ leaves_still old new Kind survives leaves clean db may = elim (survives.crash cl
 pub begun_read : (t : StoredTexts) (epoch : ℕ) (text : List ℕ) → entry_read t.first ≡ (epoch, text) → t.changes.items ≡ [] → texts_read t ≡ begun_with epoch text
 begun_read t epoch text first none = λ i. record { first = first i; changes = map entry_read (none i) }
 
--- what was read is what a checkpoint leaves
-pub cut_read : (t : StoredTexts) (epoch : ℕ) (text : List ℕ) (changes : List Entry) → entry_read t.first ≡ (epoch, text) → map entry_read t.changes.items ≡ changes
-    → texts_read t ≡ cut_to epoch text changes
-cut_read t epoch text changes first same = λ i. record { first = first i; changes = same i }
+-- texts whose first maps and changes are read as the same are the same
+pub same_read : (t u : StoredTexts) → entry_read t.first ≡ entry_read u.first → map entry_read t.changes.items ≡ map entry_read u.changes.items → texts_read t ≡ texts_read u
+same_read t u first changes = λ i. record { first = first i; changes = changes i }
 
 -- texts that are read as no entries are none
 none_read : (ts : List StoredText) → map entry_read ts ≡ [] → ts ≡ []

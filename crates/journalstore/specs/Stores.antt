@@ -4,14 +4,14 @@ use Rattle.sqlite.specs.Tree.{Trees}
 use Rattle.sqlite.specs.Store.{Ghosts}
 use Rattle.sqlite.specs.State.{State, HasCleanDisk}
 use Rattle.sqlite.specs.Held.{Held, state}
-use Rattle.journalstore.specs.Tables.{store_schema}
+use Rattle.journalstore.specs.Tables.{IsOfStore}
 use Rattle.journalstore.specs.Texts.{Texts, StandsFor}
 use Rattle.journalstore.specs.declared.store.TextStore.{TextStore}
 
--- the database has the two tables of a store, and all that it shows is committed
+-- the database has the tables of a store, and all that it shows is committed
 pub record IsSettled (s : State) : Type 0 where
   pub autocommit : s.in_transaction ≡ false
-  pub schema : s.now.schema ≡ store_schema
+  pub schema : IsOfStore s.now.schema
   pub committed : s.committed ≡ s.now
 
 -- the database is settled and shows these texts, unless a failure has shut it
@@ -21,12 +21,12 @@ pub record Shows (s : State) (t : Texts) : Type 0 where
 
 -- a transaction is under way, as long as the disk has returned what was written, and the tables are those of a store
 abbrev pub IsInWriting : State → Type 0
-IsInWriting s = HasCleanDisk s → IsTrue s.in_transaction × (s.now.schema ≡ store_schema)
+IsInWriting s = HasCleanDisk s → IsTrue s.in_transaction × IsOfStore s.now.schema
 
 -- a transaction has written these texts, which wait for a commit
 pub record IsWritten (s : State) (t : Texts) : Type 0 where
   pub in_transaction : IsTrue s.in_transaction
-  pub schema : s.now.schema ≡ store_schema
+  pub schema : IsOfStore s.now.schema
   pub stands : StandsFor s.now.trees t
 
 -- as long as the disk has returned what was written

@@ -1,5 +1,5 @@
--- The two tables of a store, and the statements on them.
-use Rattle.std.specs.Prelude.{true, false, Bool, [], ◌∷◌, Some, codes, List, ℕ, ℤ}
+-- The tables of a store in its two forms, and the statements on them.
+use Rattle.std.specs.Prelude.{◌≡◌, true, false, Bool, [], ◌∷◌, Some, codes, List, ℕ, ℤ}
 use Rattle.sqlite.specs.Collation.TheVariants.{Binary}
 use Rattle.sqlite.specs.declared.types.Value.TheVariants.{Null, Int, Text as Words}
 use Rattle.sqlite.specs.Order.{Row}
@@ -20,12 +20,21 @@ column_of name kind not_null = record {
   collation = Binary;
 }
 
--- a table of an epoch, which is the rowid, and a text
-abbrev pub table_of : List ℕ → ℕ → List ℕ → Table
-table_of name tree text = record {
+-- the forms of a store's file: with its texts alone, or with what it notes of itself, too
+pub data Form : Type 0 where
+  bare : Form
+  noted : Form
+
+abbrev pub is_noted : Form → Bool
+is_noted bare = false
+is_noted noted = true
+
+-- a table whose first column is the rowid, and which has no rules but those of its columns
+abbrev pub table_of : List ℕ → ℕ → List Column → Table
+table_of name tree columns = record {
   name = name;
   tree = tree;
-  columns = column_of (codes "epoch") Integer false ∷ column_of text Text true ∷ [];
+  columns = columns;
   key = Some 0;
   primary = 0 ∷ [];
   uniques = [];
@@ -37,17 +46,43 @@ table_of name tree text = record {
   is_counted = false;
 }
 
+-- a column of whole numbers that is the rowid; one of whole numbers that none may lack; and such a one of texts
+abbrev pub key_column : List ℕ → Column
+key_column name = column_of name Integer false
+
+abbrev pub number_column : List ℕ → Column
+number_column name = column_of name Integer true
+
+abbrev pub text_column : List ℕ → Column
+text_column name = column_of name Text true
+
+-- an epoch and a text
+abbrev pub text_columns : List ℕ → List Column
+text_columns text = key_column (codes "epoch") ∷ text_column text ∷ []
+
 -- the table of the changes
 abbrev pub journal_table : Table
-journal_table = table_of (codes "journal") 0 (codes "change")
+journal_table = table_of (codes "journal") 0 (text_columns (codes "change"))
 
 -- the table of the first map
 abbrev pub map_table : Table
-map_table = table_of (codes "map") 1 (codes "text")
+map_table = table_of (codes "map") 1 (text_columns (codes "text"))
 
--- the two tables, and nothing else
-abbrev pub store_schema : Schema
-store_schema = record { tables = journal_table ∷ map_table ∷ []; indexes = []; views = [] }
+-- the table of what is noted of the store: the number of its life, and how many changes a start leaves
+abbrev pub about_table : Table
+about_table = table_of (codes "store") 2 (key_column (codes "life") ∷ number_column (codes "keep") ∷ [])
+
+abbrev pub tables_of : Form → List Table
+tables_of bare = journal_table ∷ map_table ∷ []
+tables_of noted = journal_table ∷ map_table ∷ about_table ∷ []
+
+-- the tables, and nothing else
+abbrev pub schema_of : Form → Schema
+schema_of f = record { tables = tables_of f; indexes = []; views = [] }
+
+-- a schema is that of a store
+abbrev pub IsOfStore : Schema → Type 0
+IsOfStore schema = (f : Form) × (schema ≡ schema_of f)
 
 -- the row of an epoch and a text
 abbrev pub stored_row : ℤ → List ℕ → Row
@@ -65,6 +100,10 @@ changes_text = codes "SELECT epoch, change FROM journal ORDER BY epoch"
 abbrev pub map_text : List ℕ
 map_text = codes "SELECT epoch, text FROM map"
 
+-- the question for what the store notes of itself
+abbrev pub about_text : List ℕ
+about_text = codes "SELECT life, keep FROM store"
+
 -- the statements of a checkpoint
 abbrev pub delete_text : List ℕ
 delete_text = codes "DELETE FROM journal WHERE epoch <= ?1"
@@ -74,3 +113,7 @@ clear_text = codes "DELETE FROM map"
 
 abbrev pub map_insert_text : List ℕ
 map_insert_text = codes "INSERT INTO map (epoch, text) VALUES (?1, ?2)"
+
+-- the one that notes of the store what is told
+abbrev pub about_update_text : List ℕ
+about_update_text = codes "UPDATE store SET life = ?1, keep = ?2"

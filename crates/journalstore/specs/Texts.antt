@@ -19,10 +19,6 @@ pub record Texts : Type 0 where
 abbrev pub begun_with : ℕ → List ℕ → Texts
 begun_with epoch text = record { first = (epoch, text); changes = [] }
 
--- the texts that a checkpoint leaves: another first map, and these changes behind it
-abbrev pub cut_to : ℕ → List ℕ → List Entry → Texts
-cut_to epoch text changes = record { first = (epoch, text); changes = changes }
-
 -- the texts with one change more
 abbrev pub with_change : Texts → Entry → Texts
 with_change t change = record t { changes = t.changes ++ change ∷ [] }

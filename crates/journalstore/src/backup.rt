@@ -4,11 +4,14 @@
 //! file: what a copy of the file then lacks of it is in the log still. So a copy of the file and a later one of the log
 //! belong together unless the log was begun anew between them, which its header tells, whose salts are then others.
 
+use crate::checkpoint::checkpoint;
 use crate::error::{StoreError, of_copy, of_system};
+use crate::facts::{Facts, read_facts};
 use crate::files::{beside, check_there, has_log, length_of};
 use crate::opening::find;
 use crate::reading::{StoredTexts, read};
-use sqlite::Start;
+use sqlite::{Alter, Connection, Start};
+use std::alloc::Global;
 use std::fs::{self, File};
 use std::io::{self, ErrorKind, Read};
 use std::path::Path;
@@ -86,14 +89,32 @@ fn copy_files(rt: &HostRuntime, path: &str, to: (&str, &str)) -> Result<(), Stor
     Err(StoreError::Moving)
 }
 
-/// Reads the store of these files, copies its log into its file, and takes the log away.
+/// Gives a store another number, where it has a place for one.
+fn give_life<S: Alter>(
+    alloc: Global,
+    conn: &mut Connection<S>,
+    texts: &StoredTexts,
+    life: Option<i64>,
+) -> Result<(), StoreError> {
+    match (read_facts(conn)?, life) {
+        (Some(Facts { keep, .. }), Some(life)) => {
+            checkpoint(alloc, conn, texts, Some(Facts { life, keep }))
+        }
+        _ => Ok(()),
+    }
+}
+
+/// Reads the store of these files, gives it another number, if one is told, copies its log into its file, and takes the
+/// log away.
 fn make_whole<W: Start>(
     rt: &HostRuntime,
     files: (&str, &str),
     start: W,
+    life: Option<i64>,
 ) -> Result<StoredTexts, StoreError> {
     let mut conn = find(rt, files.0, start)?;
     let texts = read(rt.alloc(), &mut conn)?;
+    give_life(rt.alloc(), &mut conn, &texts, life)?;
     conn.close()?;
     remove(rt, files.1)?;
     Ok(texts)
@@ -164,7 +185,8 @@ fn check_target(rt: &HostRuntime, to: &str) -> Result<(), StoreError> {
 
 /// Makes one file of the files of a store, which another program may have open and write: a store by itself. What it
 /// holds is what the store held at one moment of the call, and is read from the copy. Until it is whole the file has
-/// the name of the copy with a number and `.part` behind it, which no other file has.
+/// the name of the copy with a number and `.part` behind it, which no other file has. With `life` it is a store of this
+/// number, where it has a place for one: one that goes on by itself.
 ///
 /// # Errors
 ///
@@ -176,13 +198,14 @@ pub fn copy_store<W: Start>(
     path: &str,
     to: &str,
     start: W,
+    life: Option<i64>,
 ) -> Result<StoredTexts, StoreError> {
     check_there(rt, path)?;
     check_target(rt, to)?;
     let (part, log) = make_part(rt, to)?;
     let files = (part.as_str(), log.as_str());
     let made = match copy_files(rt, path, files) {
-        Ok(()) => make_whole(rt, files, start),
+        Ok(()) => make_whole(rt, files, start, life),
         Err(error) => Err(error),
     };
     let done = match made {

@@ -11,21 +11,44 @@ ghost use Rattle.journalstore.specs.Stores.{Holds};
 
 use crate::append::LAST_EPOCH;
 use crate::begun::is_begun;
+use crate::checkpoint::add_map;
 use crate::error::StoreError;
+use crate::facts::Facts;
 use crate::files::check_free;
 use crate::opening::{FileTexts, connect, open};
 use crate::reading::StoredTexts;
 use crate::shape::{is_blank, is_store};
-use sqlite::{Alter, Connection, Error, ErrorCode, Start, params};
+use sqlite::{Alter, Connection, Error, ErrorCode, Start, Transaction, params};
 
 const JOURNAL: &str =
     "CREATE TABLE journal (epoch INTEGER PRIMARY KEY, change TEXT NOT NULL) STRICT";
 
 const MAP: &str = "CREATE TABLE map (epoch INTEGER PRIMARY KEY, text TEXT NOT NULL) STRICT";
 
-/// Makes the two tables and the row of the first map, in one transaction.
-fn make_tables<S: Alter>(conn: &mut Connection<S>, epoch: u64, text: &str) -> Result<(), Error>
-    requires { epoch < 2 ^ 63 }
+const ABOUT: &str = "CREATE TABLE store (life INTEGER PRIMARY KEY, keep INTEGER NOT NULL) STRICT";
+
+/// What a store begins with.
+#[derive(Clone, Copy, Debug)]
+pub struct Beginning<'a> {
+    /// The epoch of the first map, and its text.
+    pub epoch: u64,
+    pub text: &'a str,
+    /// What the store notes of itself.
+    pub facts: Facts,
+}
+
+/// Puts what a store notes of itself into its table, which is empty.
+fn add_facts<S: Alter>(tx: &mut Transaction<'_, S>, facts: Facts) -> Result<(), Error> {
+    tx.execute(
+        "INSERT INTO store (life, keep) VALUES (?1, ?2)",
+        params![facts.life, facts.keep],
+    )?;
+    Ok(())
+}
+
+/// Makes the tables and their first rows, in one transaction.
+fn make_tables<S: Alter>(conn: &mut Connection<S>, first: &Beginning<'_>) -> Result<(), Error>
+    requires { first.now.epoch < 2 ^ 63 }
 {
     if !conn.is_autocommit() {
         return Err(Error::SqliteFailure(ErrorCode::TransactionState));
@@ -33,16 +56,15 @@ fn make_tables<S: Alter>(conn: &mut Connection<S>, epoch: u64, text: &str) -> Re
     let mut tx = conn.transaction();
     tx.execute(JOURNAL, &[])?;
     tx.execute(MAP, &[])?;
-    tx.execute(
-        "INSERT INTO map (epoch, text) VALUES (?1, ?2)",
-        params![epoch as i64, text],
-    )?;
+    tx.execute(ABOUT, &[])?;
+    add_map(&mut tx, first.epoch, first.text)?;
+    add_facts(&mut tx, first.facts)?;
     tx.commit()
 }
 
 /// Makes a database with no table a store with its first map.
-fn make_store<S: Alter>(conn: &mut Connection<S>, epoch: u64, text: &str) -> Result<(), StoreError>
-    requires { epoch < 2 ^ 63 }
+fn make_store<S: Alter>(conn: &mut Connection<S>, first: &Beginning<'_>) -> Result<(), StoreError>
+    requires { first.now.epoch < 2 ^ 63 }
     ensures named { IfErr result (λ e. e ≢ EpochTooLarge) }
 {
     if is_store(conn.schema()) {
@@ -51,7 +73,7 @@ fn make_store<S: Alter>(conn: &mut Connection<S>, epoch: u64, text: &str) -> Res
     if !is_blank(conn.schema()) {
         return Err(StoreError::Foreign);
     }
-    make_tables(conn, epoch, text)?;
+    make_tables(conn, first)?;
     Ok(())
 }
 
@@ -60,15 +82,14 @@ fn make_file<W: Start>(
     rt: &HostRuntime,
     path: &str,
     start: W,
-    epoch: u64,
-    text: &str,
+    first: &Beginning<'_>,
 ) -> Result<(), StoreError>
-    requires { epoch < 2 ^ 63 }
+    requires { first.now.epoch < 2 ^ 63 }
     ensures named { IfErr result (λ e. e ≢ EpochTooLarge) }
 {
     check_free(rt, path)?;
     let mut conn = connect(rt, path, start)?;
-    make_store(&mut conn, epoch, text)?;
+    make_store(&mut conn, first)?;
     conn.close()?;
     Ok(())
 }
@@ -86,23 +107,22 @@ pub fn begin<V: Start, W: Start>(
     rt: &HostRuntime,
     path: &str,
     starts: (V, W),
-    epoch: u64,
-    text: &str,
+    first: &Beginning<'_>,
 ) -> Result<(FileTexts<W>, StoredTexts), StoreError>
-    ensures begun { IfOk result (λ r. Holds over_files r.0 (begun_with epoch text.now)) }
-    ensures read { IfOk result (λ r. texts_read r.1 ≡ begun_with epoch text.now) }
+    ensures begun { IfOk result (λ r. Holds over_files r.0 (begun_with first.now.epoch first.now.text.now)) }
+    ensures read { IfOk result (λ r. texts_read r.1 ≡ begun_with first.now.epoch first.now.text.now) }
     ensures found { IfOk result (λ r. (db : _) (t : Texts) → HasCleanDisk (file_state r.0.conn)
         → HoldsDatabase (image_at W.Start) db → StandsFor db t → texts_read r.1 ≡ t) }
-    ensures only { IfErr result (λ e. e ≡ EpochTooLarge → 2 ^ 63 ≤ epoch) }
-    ensures refused { 2 ^ 63 ≤ epoch → IsErrAnd result (λ e. e ≡ EpochTooLarge) }
+    ensures only { IfErr result (λ e. e ≡ EpochTooLarge → 2 ^ 63 ≤ first.now.epoch) }
+    ensures refused { 2 ^ 63 ≤ first.now.epoch → IsErrAnd result (λ e. e ≡ EpochTooLarge) }
 {
-    if epoch > LAST_EPOCH {
+    if first.epoch > LAST_EPOCH {
         return Err(StoreError::EpochTooLarge);
     }
     let (none, start) = starts;
-    make_file(rt, path, none, epoch, text)?;
+    make_file(rt, path, none, first)?;
     let (texts, found) = open(rt, path, start)?;
-    if !is_begun(&found, epoch, text) {
+    if !is_begun(&found, first.epoch, first.text) {
         return Err(StoreError::Damaged);
     }
     Ok((texts, found))

@@ -1,7 +1,7 @@
 //! Whether texts are those that a store begins with, or those that a checkpoint is to leave.
 
 ghost use Rattle.std.specs.Prelude.{◌≡◌, ◌↔◌, true, map};
-ghost use Rattle.journalstore.specs.Texts.{begun_with, cut_to};
+ghost use Rattle.journalstore.specs.Texts.{begun_with};
 ghost use Rattle.journalstore.specs.Read.{entry_read, texts_read};
 
 use crate::reading::{StoredText, StoredTexts};
@@ -43,10 +43,11 @@ fn are_same(texts: &[StoredText], others: &[StoredText]) -> bool
     true
 }
 
-/// Whether this is what a checkpoint is to leave: a first map of this epoch and text, and these changes.
-#[tactic(auto, using(crate::proofs::StoreLemmas::cut_read))]
-pub(crate) fn is_cut(texts: &StoredTexts, epoch: u64, text: &str, kept: &[StoredText]) -> bool
-    ensures { result ≡ true → texts_read texts.now ≡ cut_to epoch text.now (map entry_read kept.now) }
+/// Whether these are the same texts as others.
+#[tactic(auto, using(crate::proofs::StoreLemmas::same_read))]
+pub(crate) fn are_same_texts(texts: &StoredTexts, others: &StoredTexts) -> bool
+    ensures { result ≡ true → texts_read texts.now ≡ texts_read others.now }
 {
-    says(&texts.first, epoch, text) && are_same(texts.changes.as_slice(), kept)
+    is_same(&texts.first, &others.first)
+        && are_same(texts.changes.as_slice(), others.changes.as_slice())
 }

@@ -2,6 +2,7 @@
 //!
 //! - `opening`, `beginning`, `begun`: how a store is opened, how it is made, and what it then says
 //! - `store`: the store, and its two changes
+//! - `facts`: what a store notes beside its texts
 //! - `append`, `checkpoint`: how a change is appended, and how a new first map takes the place of the old one
 //! - `files`, `backup`: the files of a store, and a copy of them as one file
 //! - `reading`: how the texts are read
@@ -17,6 +18,7 @@ mod begun;
 mod checkpoint;
 mod error;
 mod exclusive;
+mod facts;
 mod files;
 mod opening;
 mod reading;
@@ -25,9 +27,10 @@ mod store;
 
 pub use append::LAST_EPOCH;
 pub use backup::copy_store;
-pub use beginning::begin;
+pub use beginning::{Beginning, begin};
 pub use begun::is_begun;
 pub use error::StoreError;
+pub use facts::Facts;
 pub use opening::{FileTexts, fold_log, is_missing, open};
 pub use reading::{StoredText, StoredTexts};
 pub use store::TextStore;

@@ -14,6 +14,7 @@ ghost use Rattle.journalstore.specs.Folded.{IsFoldedFrom};
 
 use crate::error::StoreError;
 use crate::exclusive::Exclusive;
+use crate::facts::read_facts;
 use crate::files::check_there;
 use crate::reading::{StoredTexts, read};
 use crate::shape::is_store;
@@ -83,8 +84,9 @@ pub fn open<W: Start>(
     check_there(rt, path)?;
     let mut conn = find(rt, path, start)?;
     let texts = read(rt.alloc(), &mut conn)?;
+    let facts = read_facts(&mut conn)?;
     let conn = Exclusive::new(conn);
-    Ok((TextStore { conn }, texts))
+    Ok((TextStore { conn, facts }, texts))
 }
 
 /// Copies the log of a store into its file, which then is the store by itself: the two files, which hold the database

@@ -4,15 +4,16 @@ ghost use Rattle.std.specs.Prelude.{◌≡◌, ◌⊎◌, ◌≤◌, ◌^◌, tr
 ghost use Rattle.sqlite.specs.State.{HasCleanDisk};
 ghost use Rattle.sqlite.specs.Held.{state};
 ghost use Rattle.journalstore.specs.declared.error.StoreError.TheVariants.{EpochTooLarge};
-ghost use Rattle.journalstore.specs.Texts.{cut_to, with_change, IsAfter, StandsFor};
-ghost use Rattle.journalstore.specs.Read.{entry_read};
+ghost use Rattle.journalstore.specs.Texts.{with_change, IsAfter, StandsFor};
+ghost use Rattle.journalstore.specs.Read.{texts_read};
 ghost use Rattle.journalstore.specs.Stores.{Holds, Leaves, Keeps};
 
 use crate::append::{append, is_running};
 use crate::checkpoint::checkpoint;
 use crate::error::StoreError;
 use crate::exclusive::Exclusive;
-use crate::reading::StoredText;
+use crate::facts::{Facts, with_keep};
+use crate::reading::StoredTexts;
 use sqlite::{Alter, Connection, File, FileStore};
 use std::alloc::Global;
 
@@ -20,9 +21,18 @@ use std::alloc::Global;
 #[derive(Drop)]
 pub struct TextStore<S: Alter> {
     pub(crate) conn: Exclusive<Connection<S>>,
+    /// What it noted of itself as it was opened, where it has a place for that.
+    pub(crate) facts: Option<Facts>,
 }
 
 impl<S: Alter> TextStore<S> {
+    /// What it noted of itself as it was opened, where it has a place for that.
+    pub fn facts(&self) -> Option<Facts>
+        ensures { result ≡ self.now.facts }
+    {
+        self.facts
+    }
+
     /// Appends a change, with one sync of the disk. After `Ok` each crash leaves it. After an error the store holds
     /// what it did before, unless a failure of the disk has shut it. Whatever a crash leaves holds the texts from
     /// before, or those with the change.
@@ -46,9 +56,10 @@ impl<S: Alter> TextStore<S> {
         append(&mut conn.value, epoch, change)
     }
 
-    /// Makes a text of this epoch the first map, and takes the old one and the changes up to the epoch away, in one
-    /// transaction; those behind it have to be `kept`. After an error the store holds what it did before, unless a
-    /// failure of the disk has shut it. Whatever a crash leaves holds the texts from before, or the new ones.
+    /// Makes another text the first map, and takes the old one and the changes up to its epoch away, in one
+    /// transaction; those behind it have to be the changes of `texts`. With `keep` it notes how many changes a start is
+    /// to leave, where there is a place. After an error the store holds what it did before, unless a failure of the disk
+    /// has shut it. Whatever a crash leaves holds the texts from before, or the new ones.
     ///
     /// # Errors
     ///
@@ -57,21 +68,21 @@ impl<S: Alter> TextStore<S> {
     pub fn checkpoint(
         &mut self,
         alloc: Global,
-        epoch: u64,
-        text: &str,
-        kept: &[StoredText],
+        texts: &StoredTexts,
+        keep: Option<u32>,
     ) -> Result<(), StoreError>
         ensures cut { OnOk result ((t : _) → Holds S.Store self.old t
-            → Holds S.Store self.new (cut_to epoch text.now (map entry_read kept.now))) }
+            → Holds S.Store self.new (texts_read texts.now)) }
         ensures kept { OnErr result ((t : _) → Holds S.Store self.old t → Keeps S.Store self.new t) }
         ensures crash { (t : _) → Holds S.Store self.old t → Leaves S.Store self.new
-            (λ db. StandsFor db t ⊎ StandsFor db (cut_to epoch text.now (map entry_read kept.now))) }
+            (λ db. StandsFor db t ⊎ StandsFor db (texts_read texts.now)) }
         ensures clean { HasCleanDisk (state S.Store self.new.conn) → HasCleanDisk (state S.Store self.old.conn) }
-        ensures only { IfErr result (λ e. e ≡ EpochTooLarge → 2 ^ 63 ≤ epoch) }
-        ensures refused { 2 ^ 63 ≤ epoch → (result ≡ Err EpochTooLarge) × (self.new ≡ self.old) }
+        ensures only { IfErr result (λ e. e ≡ EpochTooLarge → 2 ^ 63 ≤ texts.now.first.epoch) }
+        ensures refused { 2 ^ 63 ≤ texts.now.first.epoch → (result ≡ Err EpochTooLarge) × (self.new ≡ self.old) }
     {
+        let facts = with_keep(self.facts, keep);
         let conn = &mut self.conn;
-        checkpoint(alloc, &mut conn.value, epoch, text, kept)
+        checkpoint(alloc, &mut conn.value, texts, facts)
     }
 
     /// Whether the database answers a question: then no failure has shut it, and it holds what it kept. Where memory is

@@ -4,3 +4,4 @@ pub mod Stores
 pub mod OneJournal
 pub mod Laws
 pub mod Words
+pub mod Kept

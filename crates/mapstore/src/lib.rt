@@ -5,6 +5,7 @@
 //! - `store`: the store
 //! - `found`: the map that the texts of a store stand for
 //! - `opening`: how a store is begun and opened
+//! - `keep`: how many changes an open leaves
 //! - `trim`: how its first map moves on, so that not all changes are kept
 //! - `witness`: who is told that a store has failed
 //! - `error`: why a store is not begun or opened
@@ -13,6 +14,7 @@
 mod error;
 mod first;
 mod found;
+mod keep;
 mod noted;
 mod opening;
 mod row;
@@ -21,6 +23,7 @@ mod trim;
 mod witness;
 
 pub use error::OpenError;
+pub use keep::{KEPT, Keep};
 pub use opening::{FileMaps, adopt, begin, copy_store, open};
 pub use store::MapStore;
 pub use witness::Witness;

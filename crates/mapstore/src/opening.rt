@@ -18,11 +18,12 @@ ghost use Rattle.mapjson.specs.Written.{written};
 use crate::error::OpenError;
 use crate::first::write_first;
 use crate::found::find_map;
+use crate::keep::Keep;
 use crate::noted::Noted;
 use crate::store::MapStore;
 use crate::trim::trim;
 use crate::witness::Witness;
-use journalstore::{StoredTexts, TextStore};
+use journalstore::{Beginning, Facts, StoredTexts, TextStore};
 use mapparts::limits::MAX_FIRST_EPOCH;
 use osdmap::OsdMap;
 use sqlite::{Alter, FileFrom, FileStore, Start};
@@ -68,7 +69,8 @@ fn hold<S: Alter>(
 }
 
 /// The store over an open one, in which these texts were found, with the map that they stand for, which the journal
-/// begins with. The first map moves on where there are more than twice `keep` changes, so that `keep` are left.
+/// begins with. The first map moves on where there are more changes than twice as many as `keep` says, so that so many
+/// are left; the store notes a number that is told.
 ///
 /// # Errors
 ///
@@ -78,7 +80,7 @@ pub fn adopt<S: Alter + Drop>(
     alloc: Global,
     texts: TextStore<S>,
     found: StoredTexts,
-    keep: u32,
+    keep: Keep,
     witness: Witness,
 ) -> Result<(MapStore<S>, OsdMap), OpenError>
     requires { Holds S.Store texts (texts_read found) }
@@ -95,7 +97,7 @@ pub fn adopt<S: Alter + Drop>(
     Ok((hold(alloc, texts, &past, &map, witness), map))
 }
 
-/// Makes a store with this first map and no change, where there is no file, an empty one, or a database with no table,
+/// Makes a store with this first map and no change, which notes this of itself, where there is no file, an empty one, or a database with no table,
 /// and opens it: the store, and the map that its text states. Its file is then the store by itself. `starts` stands for
 /// what the files held, and for what they hold as they are opened.
 ///
@@ -107,21 +109,28 @@ pub fn begin<V: Start, W: Start>(
     rt: &HostRuntime,
     path: &str,
     starts: (V, W),
-    map: &OsdMap,
+    first: (&OsdMap, Facts),
     witness: Witness,
 ) -> Result<(FileMaps<W>, OsdMap), OpenError>
     ensures holds { IfOk result (λ r. HoldsJournal over_files r.0 (begun r.1.map)) }
-    ensures map { IfOk result (λ r. IsMapOf (begun_with map.now.map.epoch (written map.now.map)) r.1.map) }
+    ensures map { IfOk result (λ r. IsMapOf (begun_with first.entry.0.now.map.epoch (written first.entry.0.now.map))
+        r.1.map) }
     ensures found { IfOk result (λ r. IsFoundIn over_files (image_at W.Start) r.0 r.1.map) }
 {
+    let (map, facts) = first;
     check_epoch(map)?;
     let text = write_first(rt.alloc(), map)?;
-    let (texts, found) = journalstore::begin(rt, path, starts, map.epoch(), text.as_str())?;
-    adopt(rt.alloc(), texts, found, 0, witness)
+    let beginning = Beginning {
+        epoch: map.epoch(),
+        text: text.as_str(),
+        facts,
+    };
+    let (texts, found) = journalstore::begin(rt, path, starts, &beginning)?;
+    adopt(rt.alloc(), texts, found, Keep::All, witness)
 }
 
-/// Opens a store: the map that its texts stand for, which the journal begins with. Where there are more
-/// than twice `keep` changes it writes a checkpoint, which leaves `keep`.
+/// Opens a store: the map that its texts stand for, which the journal begins with. Where there are more changes than
+/// twice as many as `keep` says it writes a checkpoint, which leaves so many.
 ///
 /// # Errors
 ///
@@ -132,7 +141,7 @@ pub fn open<W: Start>(
     rt: &HostRuntime,
     path: &str,
     start: W,
-    keep: u32,
+    keep: Keep,
     witness: Witness,
 ) -> Result<(FileMaps<W>, OsdMap), OpenError>
     ensures holds { IfOk result (λ r. HoldsJournal over_files r.0 (begun r.1.map)) }
@@ -143,7 +152,7 @@ pub fn open<W: Start>(
 }
 
 /// Makes one file of the files of a store, which another program may have open, as [`journalstore::copy_store`] says:
-/// the map that its texts stand for.
+/// the map that its texts stand for. With `life` it is a store of this number.
 ///
 /// # Errors
 ///
@@ -154,7 +163,8 @@ pub fn copy_store<W: Start>(
     path: &str,
     to: &str,
     start: W,
+    life: Option<i64>,
 ) -> Result<OsdMap, OpenError> {
-    let found = journalstore::copy_store(rt, path, to, start)?;
+    let found = journalstore::copy_store(rt, path, to, start, life)?;
     find_map(rt.alloc(), &found)
 }

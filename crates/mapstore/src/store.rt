@@ -5,7 +5,7 @@ ghost use Rattle.std.specs.Prelude.{◌≡◌, ◌≤◌, OnOk, OnErr};
 use crate::noted::Noted;
 use crate::row::write_row;
 use crate::witness::Witness;
-use journalstore::{StoreError, StoredTexts, TextStore};
+use journalstore::{Facts, StoreError, StoredTexts, TextStore};
 use keeping::{Keeps, NotKept};
 use maptypes::Incremental;
 use osdmap::OsdMap;
@@ -27,6 +27,15 @@ pub struct MapStore<S: Alter> {
     pub(crate) alloc: Global,
     /// Who is told why it fails, and how many changes it has taken.
     pub(crate) witness: Witness,
+}
+
+impl<S: Alter> MapStore<S> {
+    /// What its file noted of itself as it was opened, where it has a place for that.
+    pub fn facts(&self) -> Option<Facts>
+        ensures { result ≡ self.now.texts.facts }
+    {
+        self.texts.facts()
+    }
 }
 
 impl<S: Alter> Keeps for MapStore<S> {

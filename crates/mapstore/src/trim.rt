@@ -10,6 +10,7 @@ ghost use Rattle.mapstore.specs.Openings.{IsMapOf};
 use crate::error::OpenError;
 use crate::first::write_first;
 use crate::found::find_map;
+use crate::keep::Keep;
 use journalstore::{StoreError, StoredText, StoredTexts, TextStore};
 use osdmap::OsdMap;
 use refusal::Memory;
@@ -80,9 +81,28 @@ fn check_same(alloc: Global, texts: &StoredTexts, map: &OsdMap) -> Result<(), St
     }
 }
 
-/// Moves the first map on where there are more changes than twice so many; so many are then left, and what that costs
-/// comes but once in so many changes. What is left stands for the same map, which is tested before it is written: the
-/// texts that the store then holds.
+/// Has a store, which holds these texts, note how many changes a start is to leave, if that is told.
+fn note<S: Alter>(
+    alloc: Global,
+    store: &mut TextStore<S>,
+    texts: StoredTexts,
+    keep: Option<u32>,
+) -> Result<StoredTexts, StoreError>
+    requires holds { Holds S.Store store.old (texts_read texts) }
+    ensures holds { IfOk result (λ past. Holds S.Store store.new (texts_read past)) }
+    ensures same { IfOk result (λ past. past ≡ texts) }
+    ensures clean { HasCleanDisk (state S.Store store.new.conn) → HasCleanDisk (state S.Store store.old.conn) }
+{
+    if keep.is_none() {
+        return Ok(texts);
+    }
+    store.checkpoint(alloc, &texts, keep)?;
+    Ok(texts)
+}
+
+/// Moves the first map on where there are more changes than twice as many as are to be kept; so many are then left, and
+/// what that costs comes but once in so many changes. What is left stands for the same map, which is tested before it is
+/// written: the texts that the store then holds. Where a number is told, the store notes it.
 ///
 /// # Errors
 ///
@@ -92,7 +112,7 @@ pub(crate) fn trim<S: Alter>(
     store: &mut TextStore<S>,
     found: StoredTexts,
     map: &OsdMap,
-    keep: u32,
+    keep: Keep,
 ) -> Result<StoredTexts, StoreError>
     requires holds { Holds S.Store store.old (texts_read found) }
     requires map { IsMapOf (texts_read found) map.now.map }
@@ -100,16 +120,12 @@ pub(crate) fn trim<S: Alter>(
     ensures map { IfOk result (λ past. IsMapOf (texts_read past) map.now.map) }
     ensures clean { HasCleanDisk (state S.Store store.new.conn) → HasCleanDisk (state S.Store store.old.conn) }
 {
-    if found.changes.len() as u64 <= 2 * u64::from(keep) {
-        return Ok(found);
+    let (count, noted) = (keep.count(store.facts()), keep.note(store.facts()));
+    if found.changes.len() as u64 <= 2 * u64::from(count) {
+        return note(alloc, store, found, noted);
     }
-    let past = shorten(alloc, found, keep)?;
+    let past = shorten(alloc, found, count)?;
     check_same(alloc, &past, map)?;
-    store.checkpoint(
-        alloc,
-        past.first.epoch,
-        past.first.text.as_str(),
-        &past.changes,
-    )?;
+    store.checkpoint(alloc, &past, noted)?;
     Ok(past)
 }

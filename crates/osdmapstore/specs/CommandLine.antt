@@ -56,6 +56,14 @@ wary_rule = record (new_rule (codes "wary")) { long = Some (codes "wary"); actio
 abbrev pub end_rule : Rule
 end_rule = record (new_rule (codes "end-when-full")) { long = Some (codes "end-when-full"); action = Some SetTrue }
 
+-- `--life`
+abbrev pub life_rule : Rule
+life_rule = record (new_rule (codes "life")) { long = Some (codes "life"); action = Some SetTrue }
+
+-- `--restore`
+abbrev pub restore_rule : Rule
+restore_rule = record (new_rule (codes "restore")) { long = Some (codes "restore"); action = Some SetTrue }
+
 -- `--backup FILE`
 abbrev pub backup_rule : Rule
 backup_rule = record (new_rule (codes "backup")) { long = Some (codes "backup"); action = Some Set; value_names = 1 }
@@ -85,14 +93,15 @@ store_program_with_maps = with_rule (with_rule store_program_of_sessions begin_r
 
 -- with how changes are kept, too
 abbrev pub store_program_with_changes : App
-store_program_with_changes = with_rule (with_rule (with_rule store_program_with_maps keep_rule) wary_rule) end_rule
+store_program_with_changes =
+    with_rule (with_rule (with_rule (with_rule store_program_with_maps keep_rule) wary_rule) end_rule) life_rule
 
 -- with all its options
 abbrev pub store_program_with_options : App
-store_program_with_options = with_rule store_program_with_changes backup_rule
+store_program_with_options = with_rule (with_rule store_program_with_changes backup_rule) restore_rule
 
 -- `osdmapstore [--journal N] [--stock] [--to ANSWERS].. [--begin MAP] [--open-or-begin MAP] [--keep N] [--wary]
--- [--end-when-full] [--backup FILE] STORE [SCRIPT..]`
+-- [--end-when-full] [--life] [--backup FILE] [--restore] STORE [SCRIPT..]`
 abbrev pub store_app : App
 store_app = with_rule (with_rule store_program_with_options store_rule) any_scripts_rule
 
@@ -129,14 +138,16 @@ abbrev pub store_path_in : List Row → Option Text
 store_path_in rows = first_of (codes "STORE") rows
 
 -- the options are what was found for the maps to begin with, the changes that are kept, the syncs of a change, the end
--- at a full journal, the copy, the store and the sessions
+-- at a full journal, the number of the life, the copy, the store and the sessions
 pub record AreStoreFound (rows : List Row) (o : Options) : Type 0 where
   pub begin_found : begin_path_in rows ≡ option_map string_bytes o.begin
   pub open_or_begin_found : open_or_begin_path_in rows ≡ option_map string_bytes o.open_or_begin
   pub keep_found : IsKeepIn rows o.keep
   pub wary_found : IsGivenIn (codes "wary") rows o.wary
   pub end_found : IsGivenIn (codes "end-when-full") rows o.end_when_full
+  pub life_found : IsGivenIn (codes "life") rows o.life
   pub backup_found : backup_path_in rows ≡ option_map string_bytes o.backup
+  pub restore_found : IsGivenIn (codes "restore") rows o.restore
   pub store_found : store_path_in rows ≡ Some (string_bytes o.store)
   pub sessions_found : AreFoundSessions rows o.sessions
 

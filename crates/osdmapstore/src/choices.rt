@@ -8,14 +8,18 @@ pub struct Options {
     pub begin: Option<String>,
     /// The path of the map that a new store begins with, where one is to be made if it is missing.
     pub open_or_begin: Option<String>,
-    /// How many changes an open leaves in the store, where that is said.
+    /// How many changes this open and each later one leaves in the store, where that is said.
     pub keep: Option<u32>,
     /// Whether each change is synced twice.
     pub wary: bool,
     /// Whether the run ends once its journal is full.
     pub end_when_full: bool,
+    /// Whether the number of the store's life is told behind the epoch.
+    pub life: bool,
     /// The path of the copy, where only one is to be made.
     pub backup: Option<String>,
+    /// Whether the copy is to go on by itself, as a store of another number.
+    pub restore: bool,
     /// The path of the store.
     pub store: String,
     /// How its sessions are to be run.

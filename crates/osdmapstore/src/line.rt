@@ -8,7 +8,7 @@ ghost use Rattle.clap.specs.Walk.{first_of, rows_of};
 ghost use Rattle.epochlog.specs.Epochs.{max_capacity};
 ghost use Rattle.serving.specs.Serving.{max_scripts};
 ghost use Rattle.cli.specs.Arguments.{ArePaired, Chooses, IsNumberOf, IsReadBy};
-ghost use Rattle.osdmapstore.specs.CommandLine.{many_rule, begin_rule, open_or_begin_rule, keep_rule, wary_rule, end_rule, backup_rule};
+ghost use Rattle.osdmapstore.specs.CommandLine.{many_rule, begin_rule, open_or_begin_rule, keep_rule, wary_rule, end_rule, life_rule, backup_rule, restore_rule};
 ghost use Rattle.osdmapstore.specs.CommandLine.{store_rule, any_scripts_rule, store_program, store_app};
 ghost use Rattle.osdmapstore.specs.CommandLine.{store_program_of_sessions, store_program_with_maps};
 ghost use Rattle.osdmapstore.specs.CommandLine.{store_program_with_changes, store_program_with_options};
@@ -77,8 +77,8 @@ fn keep_option<'a>(alloc: Global) -> Arg<'a>
         .long("keep")
         .value_name("N")
         .help(
-            "How many of the changes that it finds an open leaves in the store: 0 to 1000000; 1024 where nothing is \
-said, and all where there is no script",
+            "How many of the changes that it finds an open leaves in the store, this one and each later one: 0 to \
+1000000; 1024 where it was never said; a start without a script for which it is not said leaves all",
         )
         .action(ArgAction::Set)
         .value_parser(value_parser!(u32).range(0..=MOST_KEPT))
@@ -103,6 +103,26 @@ fn end_option<'a>(alloc: Global) -> Arg<'a>
     Arg::new(alloc, "end-when-full")
         .long("end-when-full")
         .help("Ends the run, with status 8, once it has taken as many changes as --journal says")
+        .action(ArgAction::SetTrue)
+}
+
+/// `--life`.
+fn life_option<'a>(alloc: Global) -> Arg<'a>
+    ensures { IsReadBy life_rule result }
+{
+    Arg::new(alloc, "life")
+        .long("life")
+        .help("Tells the number of the store's life behind its epoch, if it has one")
+        .action(ArgAction::SetTrue)
+}
+
+/// `--restore`.
+fn restore_option<'a>(alloc: Global) -> Arg<'a>
+    ensures { IsReadBy restore_rule result }
+{
+    Arg::new(alloc, "restore")
+        .long("restore")
+        .help("With --backup: the copy is to go on by itself, as a store with another number")
         .action(ArgAction::SetTrue)
 }
 
@@ -177,14 +197,17 @@ fn program_with_changes<'a>(alloc: Global) -> Result<Command<'a>, AllocError>
     program_with_maps(alloc)?
         .arg(keep_option(alloc))?
         .arg(wary_option(alloc))?
-        .arg(end_option(alloc))
+        .arg(end_option(alloc))?
+        .arg(life_option(alloc))
 }
 
 /// The program with all its options.
 fn program_with_options<'a>(alloc: Global) -> Result<Command<'a>, AllocError>
     ensures { IfOk result (λ c. app_of c ≡ store_program_with_options) }
 {
-    program_with_changes(alloc)?.arg(backup_option(alloc))
+    program_with_changes(alloc)?
+        .arg(backup_option(alloc))?
+        .arg(restore_option(alloc))
 }
 
 /// The command line that the program takes.
@@ -233,6 +256,20 @@ fn end_in(matches: &ArgMatches<'_>) -> bool
     matches.get_flag("end-when-full")
 }
 
+/// Whether the number of the store's life is to be told.
+fn life_in(matches: &ArgMatches<'_>) -> bool
+    ensures { IsGivenIn (codes "life") (rows_of (found_of matches.now)) result }
+{
+    matches.get_flag("life")
+}
+
+/// Whether the copy is to go on by itself.
+fn restore_in(matches: &ArgMatches<'_>) -> bool
+    ensures { IsGivenIn (codes "restore") (rows_of (found_of matches.now)) result }
+{
+    matches.get_flag("restore")
+}
+
 /// The options of words that the parser took. A value that it had to find and did not is told as out of memory.
 fn options_in(alloc: Global, matches: &ArgMatches<'_>) -> Result<Options, LineError>
     ensures least { IfOk result (λ o. 1 ≤ o.sessions.journal) }
@@ -249,16 +286,18 @@ fn options_in(alloc: Global, matches: &ArgMatches<'_>) -> Result<Options, LineEr
         keep: keep_in(matches),
         wary: wary_in(matches),
         end_when_full: end_in(matches),
+        life: life_in(matches),
         backup: copied_path(alloc, matches, "backup")?,
+        restore: restore_in(matches),
         store: String::from_str(alloc, store)?,
         sessions,
     })
 }
 
 /// What a command line asks for, the program's name first: `[--journal N] [--stock] [--to ANSWERS].. [--begin MAP]
-/// [--open-or-begin MAP] [--keep N] [--wary] [--end-when-full] [--backup FILE] STORE [SCRIPT..]`, the journal's N from
-/// 1 to 65,536, and 65,536 where it is not given, the other from 0 to 1,000,000, at most 64 scripts, and as many files
-/// of answers or none. The options are those that the parser finds in the words, exactly where it has nothing against
+/// [--open-or-begin MAP] [--keep N] [--wary] [--end-when-full] [--life] [--backup FILE] [--restore] STORE [SCRIPT..]`,
+/// the journal's N from 1 to 65,536, and 65,536 where it is not given, the other from 0 to 1,000,000, at most 64 scripts,
+/// and as many files of answers or none. The options are those that the parser finds in the words, exactly where it has nothing against
 /// them and the numbers are so; `Help` where help was asked for, `Usage` for what else the parser has against the
 /// words, `TooMany` where there are more scripts, `Unpaired` where there are files of answers but another number of
 /// them, else `Memory`.

@@ -1,7 +1,7 @@
 //! Answers scripts of commands over the map of a cluster that a file keeps, so that no change that was answered is lost
 //! in a crash: `osdmapstore [--journal N] [--stock] [--to ANSWERS].. [--begin MAP] [--open-or-begin MAP] [--keep N]
-//! [--wary] [--end-when-full] [--backup FILE] STORE [SCRIPT..]`, where `-` for a script is standard input, and for a
-//! file of answers standard output.
+//! [--wary] [--end-when-full] [--life] [--backup FILE] [--restore] STORE [SCRIPT..]`, where `-` for a script is standard
+//! input, and for a file of answers standard output.
 //!
 //! - `line`, `choices`: what a command line asks for
 //! - `ending`: how a run ends
@@ -25,24 +25,25 @@ mod ending;
 mod line;
 
 use choices::Options;
-use cli::{SessionOptions, check_streams, parts_of, put_served, read, tell_line};
+use cli::{check_streams, parts_of, put_served, read, tell_line};
 use ending::Ending;
-use journalstore::StoreError;
+use journalstore::{Facts, StoreError};
 use mapjson::read_map;
 use mapparts::Profile;
-use mapstore::{FileMaps, MapStore, OpenError, Witness};
+use mapstore::{FileMaps, KEPT, Keep, MapStore, OpenError, Witness};
 use osdmap::OsdMap;
 use serving::{Fault, First, Part, System, Terms, serve_map};
 use session::Buffer;
 use sqlite::{Alter, Start, Unknown, Wary};
 use std::alloc::AllocError;
 use std::process::ExitCode;
+use std::random::RandomSource;
 use std::rt::Files;
 use std::sync::Wait;
 use std::thread::Threads;
 
-/// How many changes an open leaves before sessions, where nothing is said.
-const KEPT: u32 = 1024;
+/// The greatest number of a new store's life.
+const LAST_LIFE: i64 = (1 << 53) - 1;
 
 /// Ends a run: where something kept it from being done, standard error tells why.
 fn end_run(rt: &impl Eprint, done: Result<(), Ending<'_>>) -> ExitCode
@@ -72,6 +73,27 @@ fn read_first<'a, R: Files + AllocGlobal>(
     }
 }
 
+/// The number of a new store's life: from 0 to 2^53 - 1, which each reader of JSON takes, by the machine's source of
+/// random numbers. Where that fails it is told as of a disk.
+fn new_life<'a>(host: &HostRuntime) -> Result<i64, Ending<'a>>
+    ensures { IfErr result (λ e. 2 ≤ store_status_of e) }
+{
+    let mut bytes = [0; 8];
+    match host.fill_bytes(&mut bytes) {
+        Ok(()) => Ok(i64::from_le_bytes(bytes) & LAST_LIFE),
+        Err(_) => Err(Ending::Store(OpenError::Store(StoreError::Disk))),
+    }
+}
+
+/// What a new store notes of itself.
+fn new_facts<'a>(host: &HostRuntime, options: &Options) -> Result<Facts, Ending<'a>>
+    ensures { IfErr result (λ e. 2 ≤ store_status_of e) }
+{
+    let life = new_life(host)?;
+    let keep = options.keep.unwrap_or(KEPT);
+    Ok(Facts { life, keep })
+}
+
 /// Makes the store with the map of a file, and opens it: the store, and its map.
 fn begin<'a, R: Files + AllocGlobal, V: Start, W: Start>(
     system: &System<'_, R>,
@@ -85,18 +107,19 @@ fn begin<'a, R: Files + AllocGlobal, V: Start, W: Start>(
     ensures status { IfErr result (λ e. 2 ≤ store_status_of e) }
 {
     let map = read_first(system.rt, path, options.sessions.profile)?;
-    match mapstore::begin(system.host, options.store.as_str(), starts, &map, witness) {
+    let first = (&map, new_facts(system.host, options)?);
+    match mapstore::begin(system.host, options.store.as_str(), starts, first, witness) {
         Ok((store, map)) => Ok(First { map, store }),
         Err(error) => Err(Ending::of_open(error)),
     }
 }
 
 /// How many changes an open leaves: as many as are said, else all of them where no session is to run.
-fn kept_by(options: &Options) -> u32 {
+fn kept_by(options: &Options) -> Keep {
     match options.keep {
-        Some(keep) => keep,
-        None if options.sessions.scripts.is_empty() => u32::MAX,
-        None => KEPT,
+        Some(keep) => Keep::Only(keep),
+        None if options.sessions.scripts.is_empty() => Keep::All,
+        None => Keep::AsNoted,
     }
 }
 
@@ -169,16 +192,28 @@ fn end_store<'a, R, W: Start>(
     }
 }
 
+/// The number that a copy is to have, where it is to go on by itself.
+fn life_by<'a>(host: &HostRuntime, options: &Options) -> Result<Option<i64>, Ending<'a>>
+    ensures { IfErr result (λ e. 2 ≤ store_status_of e) }
+{
+    if options.restore {
+        Ok(Some(new_life(host)?))
+    } else {
+        Ok(None)
+    }
+}
+
 /// Makes a copy of the store, and tells its epoch.
 fn back_up<'a, R: Print, W: Start>(
     system: &System<'_, R>,
-    path: &str,
+    options: &Options,
     to: &str,
     start: W,
 ) -> Result<(), Ending<'a>>
     ensures { IfErr result (λ e. 2 ≤ store_status_of e) }
 {
-    match mapstore::copy_store(system.host, path, to, start) {
+    let life = life_by(system.host, options)?;
+    match mapstore::copy_store(system.host, options.store.as_str(), to, start, life) {
         Ok(map) => {
             tell_epoch(system.rt, &map)?;
             Ok(())
@@ -214,26 +249,44 @@ fn serve_parts<'a, R: AllocGlobal + Print + Eprint + Threads + Wait + Sync, S: A
     put_served(system.rt, out.bytes(), served)
 }
 
+/// Tells the number of a store's life, where it is to be told and there is one.
+fn tell_life<'a>(
+    rt: &impl Print,
+    options: &Options,
+    facts: Option<Facts>,
+) -> Result<(), cli::Ending<'a>>
+    ensures { IfErr result (λ e. 2 ≤ status_of e) }
+{
+    match facts {
+        Some(facts) if options.life => {
+            let life = facts.life;
+            print!(rt; "life {life}\n").map_err(|_| cli::Ending::Output)
+        }
+        _ => Ok(()),
+    }
+}
+
 /// Serves the sessions of some parts over a store and its map, which it ends, and whose epoch it tells first.
 fn serve_store<'a, R: AllocGlobal + Print + Eprint + Threads + Wait + Sync, S: Alter + Drop + Send>(
     system: &System<'_, R>,
-    sessions: &SessionOptions,
+    options: &Options,
     first: First<MapStore<S>>,
     parts: &[Part],
 ) -> Result<(), cli::Ending<'a>>
-    requires least { 1 ≤ sessions.now.journal }
-    requires most { sessions.now.journal ≤ max_capacity }
+    requires least { 1 ≤ options.now.sessions.journal }
+    requires most { options.now.sessions.journal ≤ max_capacity }
     requires few { length parts.now ≤ max_scripts }
     requires holds { HoldsJournal S.Store first.store (begun first.map.map) }
     ensures { IfErr result (λ e. 2 ≤ status_of e) }
 {
     tell_epoch(system.rt, &first.map)?;
+    tell_life(system.rt, options, first.store.facts())?;
     if parts.is_empty() {
         return Ok(());
     }
     let terms = Terms {
-        journal: sessions.journal,
-        profile: sessions.profile,
+        journal: options.sessions.journal,
+        profile: options.sessions.profile,
     };
     serve_parts(system, terms, first, parts)
 }
@@ -309,15 +362,14 @@ fn work<
     let (none, start, left) = starts;
     let path = options.store.as_str();
     if let Some(to) = &options.backup {
-        return back_up(system, path, to.as_str(), start);
+        return back_up(system, options, to.as_str(), start);
     }
-    let sessions = &options.sessions;
-    let Ok((witness, other)) = two_witnesses(system.host, sessions.journal) else {
+    let Ok((witness, other)) = two_witnesses(system.host, options.sessions.journal) else {
         return Err(Ending::Run(cli::Ending::Memory));
     };
     let parts = parts_by(system, options, &witness)?;
     let first = begin_or_open(system, options, (none, start), other)?;
-    let done = serve_store(system, sessions, first, &parts);
+    let done = serve_store(system, options, first, &parts);
     end_of(&witness, done)?;
     end_store(system, path, left)?;
     end_full(options, &witness)

@@ -1,7 +1,8 @@
 """`backup`: a copy of a store in one file, also while a program has the store open.
 
 The copy, which must not exist yet, is a store by itself, with each change that was answered before. The program
-`osdmapstore` makes it, reads it, and tells its epoch.
+`osdmapstore` makes it, reads it, and tells its epoch. With --restore it is a store of another number: one that is to go
+on by itself, in the place of the first or beside it.
 """
 
 from __future__ import annotations
@@ -22,24 +23,29 @@ REASON = "store: "
 
 @dataclass(frozen=True, **SLOTS)
 class BackupOptions:
-    """The file of a store, that of the copy, and the program of a store, if one is named."""
+    """The file of a store, that of the copy, whether it is to go on by itself, and the program of a store, if one is
+    named.
+    """
 
     store: str
     to: str
+    is_restore: bool
     store_program: Program
     program: Program
 
 
 def options_of(arguments: Arguments) -> BackupOptions:
     """The options of the command line."""
-    return BackupOptions(arguments.store, arguments.to, arguments.store_program, arguments.program)
+    own = arguments
+    return BackupOptions(own.store, own.to, own.restore, own.store_program, own.program)
 
 
 def work(options: BackupOptions) -> None:
     """Makes the copy, and tells its epoch."""
     program = program_of(options.store_program or built("osdmapstore", options.program), "osdmapstore")
     doing("copying the store")
-    done = told_by([str(program), f"--backup={options.to}", "--", options.store])
+    restore = ["--restore"] * options.is_restore
+    done = told_by([str(program), f"--backup={options.to}", *restore, "--", options.store])
     if done.error.startswith(REASON):
         raise Unopened(options.store, done.error.strip().removeprefix(REASON))
     if done.status:
@@ -53,6 +59,9 @@ def add_to(commands: Commands) -> None:
     own = commands.add_parser("backup", help="a copy of a store in one file", description=__doc__)
     own.add_argument("store", metavar="STORE", help="the file in which osdmapstore keeps a map and its changes")
     own.add_argument("to", metavar="FILE", help="the file of the copy, which must not exist")
+    own.add_argument(
+        "--restore", action="store_true", help="the copy is to go on by itself, as a store with another number"
+    )
     own.add_argument(
         "--store-program",
         metavar="FILE",

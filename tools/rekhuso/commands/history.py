@@ -1,7 +1,8 @@
 """`history`: what changed in a store from epoch to epoch, or with --at the map of one of its epochs.
 
 A store is the file in which `osdmapstore` keeps a map and its changes: each start of the program leaves the last 1,024
-there, or as many as its option --keep says. A copy of the file and of its log is read, also while a program has the
+there, or as many as its option --keep said last; and above them stands the number of the store's life, by which two
+stores of the same epochs are told apart. A copy of the file and of its log is read, also while a program has the
 store open, and nothing is written into them or beside them. The map of an epoch is made by the program, change by
 change.
 """
@@ -15,7 +16,7 @@ from dataclasses import dataclass
 from ..cluster.epochs import epochs_of, first_of
 from ..cluster.names import Names, names_in
 from ..faults import Fault, Misuse
-from ..output.history_words import epoch_line, first_line
+from ..output.history_words import epoch_line, first_line, life_lines
 from ..output.json_output import put_json
 from ..program.maps import Program
 from ..program.stores import StoredJournal, journal_in, map_at
@@ -57,9 +58,11 @@ def put_history(journal: StoredJournal, names: Names, is_json: bool) -> None:
     first = first_of(journal)
     changes = list(epochs_of(first, journal))
     if is_json:
-        put_json("history", journal.last, first_epoch=journal.epoch, changes=changes)
+        facts = {"life": journal.facts and journal.facts.life, "keep": journal.facts and journal.facts.keep}
+        put_json("history", journal.last, first_epoch=journal.epoch, **facts, changes=changes)
     else:
-        print("\n".join([first_line(first), *(epoch_line(parts, names) for parts in changes)]))
+        lines = [*life_lines(journal), first_line(first), *(epoch_line(parts, names) for parts in changes)]
+        print("\n".join(lines))
 
 
 def work(options: HistoryOptions) -> None:

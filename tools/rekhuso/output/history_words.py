@@ -7,10 +7,19 @@ from collections.abc import Iterable
 from ..cluster.json_forms import EpochParts, ExceptionChangeParts, GrowthParts
 from ..cluster.names import Names, named, pool_words, set_words
 from ..program.maps import Entry, Map, Pool, entries_of
+from ..program.stores import StoredJournal
 from ..words import counted, listed, some
 
 # How many reweights or exceptions of a kind are told one by one.
 MOST = 4
+
+
+def life_lines(journal: StoredJournal) -> list[str]:
+    """What a store notes of itself, in a line, if it notes anything."""
+    facts = journal.facts
+    if facts is None:
+        return []
+    return [f"store {facts.life}: a start leaves the last {counted(facts.keep, 'change')}"]
 
 
 def first_line(first: Map) -> str:

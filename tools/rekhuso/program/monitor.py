@@ -36,6 +36,7 @@ one changes the others see.
 
 from __future__ import annotations
 
+import contextlib
 import errno
 import os
 import pathlib
@@ -58,8 +59,18 @@ from .versions import program_of
 EPOCH = re.compile(r'"epoch"\s*:\s*([0-9]{1,20})\b')
 # What a system says of a file that is no program.
 NO_PROGRAM = (errno.ENOENT, errno.EACCES, errno.ENOEXEC, errno.EISDIR)
-# The most changes that a start may be told to leave in a store: a session of the tools cuts none off.
-MOST_KEPT = "1000000"
+# What the first page of a store's file has where the store says how many changes a start leaves; and the most that a
+# start may be told to leave: where the store says nothing, a session of the tools cuts none off.
+ABOUT, PAGE, MOST_KEPT = b"CREATE TABLE store (", 65536, "1000000"
+
+
+def kept_in(store: str) -> list[str]:
+    """The options of a start that cuts nothing off from a store that does not say how many changes it leaves."""
+    with contextlib.suppress(OSError):
+        if os.path.isfile(store):
+            with open(store, "rb") as file:
+                return [] if ABOUT in file.read(PAGE) else ["--keep", MOST_KEPT]
+    return []
 
 
 def map_text(value: Map | str | os.PathLike[str]) -> str:
@@ -139,7 +150,7 @@ class Monitor(Session):
                 pathlib.Path(self._folder.name, "map.json").write_text(text, encoding="utf-8")
         files = ["map.json"]
         if self._store is not None:
-            files = ["--keep", MOST_KEPT, self._store] if text is None else ["--begin", "map.json", self._store]
+            files = [*kept_in(self._store), self._store] if text is None else ["--begin", "map.json", self._store]
         sessions = [lines for lines, _ in names] + [word for _, answers in names for word in ("--to", answers)]
         return [*(["--stock"] if self.is_stock else []), "--journal", str(journal), *files, *(sessions or ["-"])]
 

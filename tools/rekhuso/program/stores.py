@@ -1,4 +1,5 @@
-"""The file of a store, which `osdmapstore` keeps: the text of a first map, and a row for each change since.
+"""The file of a store, which `osdmapstore` keeps: the text of a first map, and a row for each change since; and what the
+store notes of itself, in a form that has a table for it.
 
 It is a SQLite database, whose newest rows may stand in the log beside it (`-wal`). Both are copied and read there, so
 that nothing is written into them or beside them, and a program may have them open and start meanwhile: a file and a
@@ -37,8 +38,14 @@ MODES, LOGGED = slice(18, 20), b"\x02\x02"
 SHARED, SHARED_BYTES = (1 << 30) + 2, 510
 # The first SQLite that reads the tables of a store.
 LEAST = (3, 37)
-# The tables of a store, and the column that each has beside the epoch.
-TABLES = {"journal": "change", "map": "text"}
+# The tables of a store, each with its key, a whole number, and the name and the type of its other column; and which of
+# them a store has, in the older form and in that which notes something of itself.
+TABLES = {
+    "journal": ("epoch", "change", "TEXT"),
+    "map": ("epoch", "text", "TEXT"),
+    "store": ("life", "keep", "INTEGER"),
+}
+BARE, NOTED = ("journal", "map"), ("journal", "map", "store")
 PROFILES = ("plain", "stock")
 # What only the disk of the copy says, as nothing else is written.
 FULL = (errno.ENOSPC, errno.EDQUOT)
@@ -63,13 +70,26 @@ class StoredChange:
 
 
 @dataclass(frozen=True, **SLOTS)
+class StoreFacts:
+    """What a store notes of itself: the number of its life, which is another in each store that was begun or restored,
+    and how many changes a start leaves.
+    """
+
+    life: int
+    keep: int
+
+
+@dataclass(frozen=True, **SLOTS)
 class StoredJournal:
-    """What a store holds: the epoch and the text of its first map, and the changes since, each of the next epoch."""
+    """What a store holds: the epoch and the text of its first map, the changes since, each of the next epoch, and what
+    it notes of itself, if its form has a place for that.
+    """
 
     path: str
     epoch: int
     text: str
     changes: list[StoredChange]
+    facts: StoreFacts | None
 
     @property
     def last(self) -> int:
@@ -163,21 +183,33 @@ def copied(path: str) -> Iterator[str]:
 # The tables of a store
 
 
-def has_tables(database: sqlite3.Connection) -> bool:
-    """Whether a database has the two tables of a store, and nothing else."""
+def has_tables(database: sqlite3.Connection, names: tuple[str, ...]) -> bool:
+    """Whether a database has these tables of a store, and nothing else."""
     if database.execute("SELECT type, name FROM sqlite_master ORDER BY name").fetchall() != [
-        ("table", name) for name in TABLES
+        ("table", name) for name in names
     ]:
         return False
     forms = database.execute("SELECT name, wr, strict FROM pragma_table_list WHERE schema = 'main' ORDER BY name")
-    if [form for form in forms if form[0] in TABLES] != [(name, 0, 1) for name in TABLES]:
+    if [form for form in forms if form[0] in names] != [(name, 0, 1) for name in names]:
         return False
     columns = 'SELECT name, type, "notnull", dflt_value, pk, hidden FROM pragma_table_xinfo(?)'
     return all(
-        database.execute(columns, (name,)).fetchall()
-        == [("epoch", "INTEGER", 0, None, 1, 0), (text, "TEXT", 1, None, 0, 0)]
-        for name, text in TABLES.items()
+        database.execute(columns, (name,)).fetchall() == [(key, "INTEGER", 0, None, 1, 0), (other, kind, 1, None, 0, 0)]
+        for name, (key, other, kind) in TABLES.items()
+        if name in names
     )
+
+
+def facts_of(database: sqlite3.Connection, path: str) -> StoreFacts | None:
+    """What a store notes of itself. `Unopened` where it is no store, or does not note it once."""
+    if has_tables(database, BARE):
+        return None
+    if not has_tables(database, NOTED):
+        raise Unopened(path, FOREIGN)
+    rows = database.execute("SELECT life, keep FROM store").fetchall()
+    if len(rows) != 1:
+        raise Unopened(path, DAMAGED)
+    return StoreFacts(*rows[0])
 
 
 def change_of_row(path: str, epoch: int, text: str) -> StoredChange:
@@ -188,8 +220,8 @@ def change_of_row(path: str, epoch: int, text: str) -> StoredChange:
     return StoredChange(epoch, profile, change)
 
 
-def journal_of(database: sqlite3.Connection, path: str) -> StoredJournal:
-    """What the tables hold. `Unopened` where there is not one first map, or a row is not the next."""
+def journal_of(database: sqlite3.Connection, path: str, facts: StoreFacts | None) -> StoredJournal:
+    """What the tables hold of texts. `Unopened` where there is not one first map, or a row is not the next."""
     maps = database.execute("SELECT epoch, text FROM map").fetchall()
     if len(maps) != 1:
         raise Unopened(path, DAMAGED)
@@ -199,7 +231,7 @@ def journal_of(database: sqlite3.Connection, path: str) -> StoredJournal:
         if own != epoch + number:
             raise Unopened(path, f"row {own}: the epoch before it is {epoch + number - 1}")
         changes.append(change_of_row(path, own, change))
-    return StoredJournal(path, epoch, text, changes)
+    return StoredJournal(path, epoch, text, changes, facts)
 
 
 def journal_in(path: str) -> StoredJournal:
@@ -213,8 +245,7 @@ def journal_in(path: str) -> StoredJournal:
     doing("reading the store")
     with copied(path) as place, contextlib.closing(sqlite3.connect(place, isolation_level=None)) as database:
         try:
-            if not has_tables(database):
-                raise Unopened(path, FOREIGN)
+            facts = facts_of(database, path)
             database.execute("PRAGMA wal_checkpoint(TRUNCATE)").fetchall()
             with open(place, "rb") as file:
                 page = wrong_page(file)
@@ -222,7 +253,7 @@ def journal_in(path: str) -> StoredJournal:
                 raise Unopened(path, f"{DAMAGED}, or another program has written it: the sum of page {page} is wrong")
             if database.execute("PRAGMA quick_check(1)").fetchall() != [("ok",)]:
                 raise Unopened(path, DAMAGED)
-            return journal_of(database, path)
+            return journal_of(database, path, facts)
         except sqlite3.Error as fault:
             raise Unopened(path, FOREIGN if "not a database" in str(fault) else DAMAGED) from None
 

@@ -11,7 +11,7 @@ returns-clause-writing g c writing clean _ =
     let last = state g.S.Store c.execute.new.self.conn.now in
     let early : HasCleanDisk old = omega (arith, c.execute.ensures.survives.clean, clean) in
     let one = c.in_ok-execute.ensures.runs clean (writing early).0 in
-    (one.1.mode, inserts old last (writing early).1 _ c.in_ok-execute.field-0 one.0)
+    (one.1.mode, inserts old last _ c.in_ok-execute.field-0 (writing early).1 one.0)
 
 pub returns-clause-keeps : goal.returns-clause-keeps
 returns-clause-keeps g c writing clean =

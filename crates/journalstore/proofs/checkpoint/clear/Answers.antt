@@ -13,5 +13,5 @@ returns-clause-writing g c writing clean _ =
     let early : HasCleanDisk old = omega (arith, c.execute.ensures.survives.clean, then) in
     let one = c.in_ok-execute.ensures.runs then (writing early).0 in
     let two = c.in_ok-execute-2.ensures.runs clean one.1.mode in
-    let schema = deletes old mid (writing early).1 _ c.in_ok-execute.field-0 one.0 in
-    (two.1.mode, clears mid last schema _ c.in_ok-execute-2.field-0 two.0)
+    let schema = deletes old mid _ c.in_ok-execute.field-0 (writing early).1 one.0 in
+    (two.1.mode, clears mid last _ c.in_ok-execute-2.field-0 schema two.0)

@@ -1,11 +1,9 @@
-use Rattle.std.proofs.Common.{◌≡◌, [], sym, subst, arith, rules}
+use Rattle.std.proofs.Common.{◌≡◌, [], arith, rules}
 use Rattle.std.proofs.lemmas.Result.{IfOk-weaker}
 use Rattle.sqlite.specs.State.{HasCleanDisk}
 use Rattle.sqlite.specs.Held.{state}
-use Rattle.sqlite.specs.Listing.{understood}
-use Rattle.sqlite.proofs.Callers.{IsPlain}
 use Rattle.journalstore.specs.Tables.{changes_text}
-use Rattle.journalstore.proofs.ReadLemmas.{changes_read, same_shown, changes_plain}
+use Rattle.journalstore.proofs.ReadLemmas.{changes_read, same_shown, plain_changes}
 use Rattle.journalstore.proofs.KeepLemmas.{query_keeps, read_keeps}
 use Rattle.journalstore.proofs.checkpoint.read_changes.Goals as goal
 
@@ -26,4 +24,4 @@ returns-clause-keeps g c writing clean =
     let old = state g.S.Store c.args.tx.now.conn.now in
     let new = state g.S.Store c.query_all.new.self.conn.now in
     let early : HasCleanDisk old = omega (arith, c.query_all.ensures.survives.clean, clean) in
-    read_keeps old new (same_shown changes_text old new c.in_ok-rows.rows.items (subst (λ s. IsPlain (understood s changes_text)) (sym (writing early).1) changes_plain) (c.in_ok-rows.ensures.ok clean))
+    read_keeps old new (same_shown changes_text old new c.in_ok-rows.rows.items (plain_changes old.now.schema (writing early).1) (c.in_ok-rows.ensures.ok clean))

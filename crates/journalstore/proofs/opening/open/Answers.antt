@@ -8,11 +8,13 @@ use Rattle.journalstore.proofs.opening.open.Goals as goal
 
 pub returns-clause-holds : goal.returns-clause-holds
 returns-clause-holds g c =
-    subst (λ h. HoldsIn over_files h (texts_read c.in_ok-texts.texts)) (sym c.new-conn.ensures) (c.in_ok-texts.ensures.holds c.in_ok-conn.ensures.ready)
+    let texts = texts_read c.in_ok-texts.texts in
+    subst (λ h. HoldsIn over_files h texts) (sym c.new-conn.ensures) (c.in_ok-facts.ensures.holds texts (c.in_ok-texts.ensures.holds c.in_ok-conn.ensures.ready))
 
 pub returns-clause-found : goal.returns-clause-found
 returns-clause-found g c db t clean held stands =
-    let late : HasCleanDisk (file_state c.read.new.conn) = subst (λ h. HasCleanDisk (file_state h)) c.new-conn.ensures clean in
+    let last : HasCleanDisk (file_state c.read_facts.new.conn) = subst (λ h. HasCleanDisk (file_state h)) c.new-conn.ensures clean in
+    let late : HasCleanDisk (file_state c.read.new.conn) = c.in_ok-facts.ensures.clean last in
     let early = c.in_ok-texts.ensures.clean late in
     let ready = c.in_ok-conn.ensures.ready in
     let holds = c.in_ok-texts.ensures.holds ready in

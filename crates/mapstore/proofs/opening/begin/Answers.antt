@@ -13,8 +13,8 @@ adopt-requires g c = subst (Holds over_files c.in_ok-texts.texts) (sym c.in_ok-t
 
 pub returns-clause-map : goal.returns-clause-map
 returns-clause-map g c =
-    let text : c.as_str.result.now ≡ written c.args.map.now.map = c.as_str.ensures.value ∙ c.in_ok-text.ensures.text in
-    let read : texts_read c.in_ok-texts.found ≡ begun_with c.args.map.now.map.epoch (written c.args.map.now.map) = c.in_ok-texts.ensures.read ∙ (λ i. begun_with (c.epoch.ensures i) (text i)) in
+    let text : c.as_str.result.now ≡ written c.args.first.0.now.map = c.as_str.ensures.value ∙ c.in_ok-text.ensures.text in
+    let read : texts_read c.in_ok-texts.found ≡ begun_with c.args.first.0.now.map.epoch (written c.args.first.0.now.map) = c.in_ok-texts.ensures.read ∙ (λ i. begun_with (c.epoch.ensures i) (text i)) in
     subst (λ ts. IfOk c.adopt.result (λ r. IsMapOf ts r.1.map)) read c.adopt.ensures.map
 
 pub returns-clause-found : goal.returns-clause-found
