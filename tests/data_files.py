@@ -118,7 +118,7 @@ class DataFiles(ToolCase):
         words = ["--pgs", self.pgs(self.held), "--osds", self.osds(sizes)]
         output, error = self.ran("plan", *self.files, *words)
         self.assertEqual(output, "")
-        self.assertRegex(error, r"cluster stopped: osd\.\d+ would get nearly full by \d+ more steps?, which are left; ")
+        self.assertRegex(error, r"cluster stopped: osd\.\d+ would get nearly full by \d+ more steps?, left out here; ")
         self.assertTrue(self.json("plan", *self.files, *words)["data"]["stopped"])
 
     def test_other_clusters(self) -> None:

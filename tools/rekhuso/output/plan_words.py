@@ -98,7 +98,7 @@ def data_words(outcome: Outcome, names: Names) -> list[str]:
     for osd, count in sorted(outcome.stopped.items()):
         found.append(
             f"stopped: {named(names, 'osds', osd)} would get nearly full by {counted(count, 'more step')}, "
-            "which are left; --batch N --to FOLDER takes them in later parts, as far as there is room then"
+            "left out here; --batch N --to FOLDER takes what is left out in later parts, as far as there is room then"
         )
     return found
 

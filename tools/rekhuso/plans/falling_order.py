@@ -3,8 +3,8 @@
 Where OSDs that get give on what they have, as in a ring of moves, an order that goes from the fullest OSD leaves such
 steps to its end, where the fullest OSD is no fuller than they make one for a while. So it is asked backwards which step
 was the last: one that leaves the OSD from which it goes least full before it, of those without which the fullest was as
-full before as after. By that the fullest is as low as it can be for as long as it can be, and a ring is gone round while
-another OSD is fuller still.
+full before as after. By that the fullest is as low as it can be for as long as it can be, and a ring is gone round
+while another OSD is fuller still.
 """
 
 from __future__ import annotations
@@ -129,8 +129,8 @@ class Backwards:
 
 
 def falling(levels: Levels, shifts: Mapping[str, Shift]) -> list[str]:
-    """Steps in an order in which the fullest OSD gets fuller by none, as far as there is one; the levels are those after
-    all steps, and before them then.
+    """Steps in an order in which the fullest OSD gets fuller by none, as far as there is one; the levels are those
+    after all steps, and before them then.
     """
     own, found = Backwards(levels, shifts), list[str]()
     while own.left:

@@ -46,7 +46,7 @@ class GroupPass:
         return gain
 
     def low(self, own: PoolPlaces, leaves: int) -> list[int]:
-        """The OSDs to which groups of a pool may go from another, of those with the fewest groups above their shares."""
+        """The OSDs to which groups of a pool may go from another, of those with fewest groups above their shares."""
         found, block, laid = self.found, own.block_of(leaves), self.found.laid[own.number]
         if block is None or leaves not in laid.shares or not found.leaving(own, leaves):
             return []

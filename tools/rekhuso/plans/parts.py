@@ -86,6 +86,7 @@ def fallen(order: StepOrder, parts: list[list[PlanStep]]) -> list[list[PlanStep]
         rank = falling(levels, {own: shifts[own] for own in given if (own in first) is is_first}) + rank
 
     def rise(own: list[str]) -> float:
+        """By how much the fullest OSD gets fuller at most by a step."""
         return rise_of(levels_after(order, ()), map(shifts.__getitem__, own))
 
     if rise(rank) + ALIKE_RATIOS >= rise(given):
