@@ -138,6 +138,7 @@ class PythonMonitor(Case):
         self.assertEqual(
             shown,
             {
+                "apply",
                 "ask",
                 "balance",
                 "change",
