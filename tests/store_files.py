@@ -328,14 +328,15 @@ class StoreFiles(StoreCase):
         lines = LINES.splitlines()
         self.assertEqual(self.ran("--keep", 2, "--begin", EXAMPLE, self.store, "-", text=LINES).error, "")
         self.assertEqual((self.noted()[1], len(held(self.store).rows)), (2, 5))
-        for options, kept, left in (
+        starts: list[tuple[list[object], int, int]] = [
             ([], 2, 5),
             (["-"], 2, 2),
             (["--keep", 1], 1, 2),
             (["-"], 1, 2),
             (["--keep", 0], 0, 0),
             (["--keep", 7], 7, 0),
-        ):
+        ]
+        for options, kept, left in starts:
             with self.subTest(options=options):
                 before = self.store.read_bytes()
                 done = self.ran(*options, self.store) if options[:1] != ["-"] else self.ran(self.store, "-")
@@ -351,7 +352,12 @@ class StoreFiles(StoreCase):
         with opened(self.store) as database:
             database.execute("insert into map values (1, ?)", (model.Cluster(example()).written(),))
             database.executemany("insert into journal values (?, ?)", [(n, row(n)) for n in range(2, LAST + 1)])
-        for words, left in ((["--keep", 2, self.store], 2), ([self.store, "-"], 2), (["--keep=0", self.store], 0)):
+        starts: list[tuple[list[object], int]] = [
+            (["--keep", 2, self.store], 2),
+            ([self.store, "-"], 2),
+            (["--keep=0", self.store], 0),
+        ]
+        for words, left in starts:
             done = self.ran("--life", *words)
             self.assertEqual((done.status, done.output.splitlines()[0], done.error), (0, f"epoch {LAST}", ""))
             self.assertNotIn("life", done.output)
@@ -369,13 +375,15 @@ class StoreFiles(StoreCase):
             self.assertEqual(self.ran("--begin", EXAMPLE, store, "-", text=LINES).error, "")
             lives.add(self.noted(store)[0])
             told = f"epoch {LAST}\nlife {self.noted(store)[0]}\n"
-            for words in ([], ["--keep", 1], ["--keep", 3]):
+            starts: list[list[object]] = [[], ["--keep", 1], ["--keep", 3]]
+            for words in starts:
                 self.assertEqual(self.ran("--life", *words, store), Done(0, told, ""))
             answers = self.ran("--life", store, "-", text="epoch\n").output
             self.assertEqual(answers, f"{told}session 1\nepoch {LAST}\n")
         self.assertEqual(len(lives), 3)
         self.assertTrue(all(0 <= life < 1 << 53 for life in lives))
-        for options, count in (([], 3), (["--restore"], 4)):
+        copies: list[tuple[list[object], int]] = [([], 3), (["--restore"], 4)]
+        for options, count in copies:
             to = self.folder / f"made-{count}"
             self.assertEqual(self.ran("--backup", to, *options, self.store), Done(0, f"epoch {LAST}\n", ""))
             lives.add(self.noted(to)[0])

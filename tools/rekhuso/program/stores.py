@@ -1,5 +1,5 @@
-"""The file of a store, which `osdmapstore` keeps: the text of a first map, and a row for each change since; and what the
-store notes of itself, in a form that has a table for it.
+"""The file of a store, which `osdmapstore` keeps: the text of a first map, and a row for each change since; and what
+the store notes of itself, in a form that has a table for it.
 
 It is a SQLite database, whose newest rows may stand in the log beside it (`-wal`). Both are copied and read there, so
 that nothing is written into them or beside them, and a program may have them open and start meanwhile: a file and a
