@@ -191,8 +191,10 @@ class PythonStores(ToolCase):
         before = held(folder)
         first = "epoch 1: the first map, with 4 OSDs, 1 pool, 1 group and 0 exceptions"
         wanted = [f"epoch {epoch}: {line}" for epoch, (_, line) in enumerate(CHANGES, 2)]
-        self.assertEqual(self.output("history", folder / "store").splitlines(), [first, *wanted])
-        self.assertEqual(beside, [first, *wanted])
+        head, *lines = self.output("history", folder / "store").splitlines()
+        self.assertRegex(head, r"^store \d+: a start leaves the last 1024 changes$")
+        self.assertEqual(lines, [first, *wanted])
+        self.assertEqual(beside, [head, first, *wanted])
         for epoch in (1, 2, 14, len(maps)):
             self.assertEqual(self.output("history", folder / "store", "--at", epoch), maps[epoch - 1] + "\n")
         self.assertEqual(held(folder), before)
@@ -200,7 +202,7 @@ class PythonStores(ToolCase):
             self.assertEqual(monitor.found_epoch, len(maps))
             monitor.change(down=[3])
         lines = self.output("history", folder / "store").splitlines()
-        self.assertEqual(lines, [first, *wanted, f"epoch {len(maps) + 1}: osd.3 down"])
+        self.assertEqual(lines, [head, first, *wanted, f"epoch {len(maps) + 1}: osd.3 down"])
 
     def test_plan_in_a_history(self) -> None:
         """The moves of a plan that was committed are told as pairs, as many as the plan has moves."""
@@ -218,7 +220,7 @@ class PythonStores(ToolCase):
         """A store of the program that another SQLite has written is refused by both: its sums are wrong."""
         with self.monitor(example()) as monitor:
             monitor.change(down=[2])
-        self.assertEqual(len(self.output("history", self.path()).splitlines()), 2)
+        self.assertEqual(len(self.output("history", self.path()).splitlines()), 3)
         with store_at(self.path(), "UPDATE journal SET change = replace(change, '[2]', '[3]')"):
             pass
         told = f"{self.path()}: the store is damaged, or another program has written it"
@@ -233,7 +235,7 @@ class PythonStores(ToolCase):
             monitor.change(down=[2])
             told = self.tools.run("backup", self.path(), self.path("copy"), *words)
             self.assertEqual(told, (0, "epoch 2\n", ""))
-        self.assertEqual(len(self.output("history", self.path("copy")).splitlines()), 2)
+        self.assertEqual(len(self.output("history", self.path("copy")).splitlines()), 3)
         with self.monitor(name="copy") as monitor:
             self.assertEqual(monitor.found_epoch, 2)
         for store, to, reason in (
