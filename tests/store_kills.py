@@ -59,8 +59,9 @@ class Writer(soak.Writer):
         self.rng, self.number = random.Random(seed), first
 
     def change(self, base: int, is_safe: bool) -> str:
-        """A change with its mark."""
-        change = json.loads(super().change(base, is_safe).removeprefix("change "))
+        """A change with its mark, and with a base: the histories that a store may have are told by bases."""
+        _, _, text = super().change(base, is_safe).partition(" ")
+        change = {"base": base, **json.loads(text)}
         self.number += 1
         marks = [list(mark) for mark in zip(MARKS, divmod(self.number, WORD))]
         change["weight"] = [*change.get("weight", []), *marks]
