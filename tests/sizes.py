@@ -93,8 +93,8 @@ class Sizes(Case):
             self.assertLess(self.counted(many, []) / self.counted(few, []), 20)
 
     def test_osds(self) -> None:
-        """A line that names a group or an OSD costs little more where there are 16 times as many OSDs. A pair, for which
-        a rule draws each host, and a plan of one group cost as they do, and not as their square."""
+        """A line that names a group or an OSD costs little more where there are 16 times as many OSDs. A pair, for
+        which a rule draws each host, and a plan of one group cost as they do, and not as their square."""
         lines = {"up": ["up 1.0"] * MANY, "down": changes(MANY, *STATES), "pair": changes(MANY, *PAIRS)}
         lines["balance"] = ["balance 1 16"] * HEAVY
         most = {"up": 1.3, "down": 1.3, "pair": 20, "balance": 40}

@@ -61,7 +61,7 @@ class Writer(soak.Writer):
     def change(self, base: int, is_safe: bool) -> str:
         """A change with its mark, and with a base: the histories that a store may have are told by bases."""
         _, _, text = super().change(base, is_safe).partition(" ")
-        change = {"base": base, **json.loads(text)}
+        change: Json = {"base": base, **json.loads(text)}
         self.number += 1
         marks = [list(mark) for mark in zip(MARKS, divmod(self.number, WORD))]
         change["weight"] = [*change.get("weight", []), *marks]
