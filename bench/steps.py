@@ -15,7 +15,7 @@ import sys
 from collections.abc import Iterator
 from typing import Any
 
-from maps import few_hosts, flat, hosts, levels, paired
+from maps import few_hosts, flat, hosts, levels, osds, paired
 from running import Folder, heading, in_folder, instructions, output, program, row, table
 
 EPOCH, STALE = 100_000, 900_000
@@ -98,11 +98,37 @@ def pool_rows(runs: Folder) -> Iterator[Any]:
     yield row("one OSD down or up", lambda: [a_change(runs, stated, STATES) for stated in kinds])
     moved = [[f'"new_items":[["{last}.3",[[{osd},63]]]]' for osd in (61, 60)] for last in POOL_COUNTS]
     yield row("one pair of a group", lambda: [a_change(runs, *each) for each in zip(kinds, moved)])
+    named = [[pair_each(pools, osd) for osd in (61, 60)] for pools in POOL_COUNTS]
+    yield row("a pair of a group of each pool", lambda: [a_change(runs, *each) for each in zip(kinds, named)])
+    spare = [runs.map(with_spare(few_hosts("straw2", 16, pools))) for pools in POOL_COUNTS]
+    yield row("a reweight that no rule reaches", lambda: [a_change(runs, stated, reweights(64)) for stated in spare])
+    yield row(
+        "a reweight that reaches all pools", lambda: [a_change(runs, stated, reweights(5), 6) for stated in kinds]
+    )
+
+
+def pair_each(pools: int, osd: int) -> str:
+    """The part of a change that gives a group of each pool a pair."""
+    pairs = ",".join(f'["{number}.3",[[{osd},63]]]' for number in range(1, pools + 1))
+    return f'"new_items":[{pairs}]'
+
+
+def reweights(osd: int) -> list[str]:
+    """Two reweights of an OSD."""
+    return [f'"weight":[[{osd},{weight}]]' for weight in (32_768, 65_536)]
+
+
+def with_spare(stated: Any) -> Any:
+    """A map with one OSD more, which stands in no bucket."""
+    return {**stated, "max_osd": stated["max_osd"] + 1, "osds": osds(stated["max_osd"] + 1)}
 
 
 def osd_rows(runs: Folder) -> Iterator[Any]:
-    """What a plan of a pool of one group costs as there are more OSDs."""
+    """What lines cost that name a group or an OSD, and a plan of a pool of one group, as there are more OSDs."""
     kinds = [runs.map(hosts(count, 16, 1)) for count in OSD_COUNTS]
+    yield row("a line `up`", lambda: [a_line(runs, stated, "up 1.0\n") for stated in kinds])
+    yield row("one OSD down or up", lambda: [a_change(runs, stated, STATES) for stated in kinds])
+    yield row("one pair of a group", lambda: [a_change(runs, stated, pairs(runs, stated)) for stated in kinds])
     yield row("a line `balance`", lambda: [a_line(runs, stated, "balance 1 16\n", 5, 15) for stated in kinds])
 
 
@@ -114,7 +140,7 @@ def main() -> None:
     in_folder(path, lambda runs: table(["what", "no other group has one", "131,071 others have one"], list_rows(runs)))
     heading("Lines beside more pools, in instructions")
     in_folder(path, lambda runs: table(["what", *(f"pools: {count}" for count in POOL_COUNTS)], pool_rows(runs)))
-    heading("A plan of a pool of one group over more OSDs, in instructions")
+    heading("Lines beside more OSDs, over a pool of one group, in instructions")
     in_folder(path, lambda runs: table(["what", *(f"OSDs: {count:,}" for count in OSD_COUNTS)], osd_rows(runs)))
 
 

@@ -4,19 +4,30 @@ from __future__ import annotations
 
 import pathlib
 import random
+from collections import Counter
 from collections.abc import Iterable
+from contextlib import ExitStack
+from dataclasses import replace
 from functools import partial
 from itertools import combinations, product
 from typing import Any
 
 from rekhuso.cluster.evenness import Spread
+from rekhuso.cluster.pool_data import BYTE_PARTS, Data
+from rekhuso.cluster.sources import Source
+from rekhuso.cluster.view import view_of
 from rekhuso.plans.at_rest import AtRest
 from rekhuso.plans.bounds import Measure
+from rekhuso.plans.busy import ALL
 from rekhuso.plans.cycles import without_cycles
+from rekhuso.plans.exchanges import Backs, BestExchanges, Exchange, Limit, OsdPair
 from rekhuso.plans.falling_order import Levels, Shift, falling, rise_of
+from rekhuso.plans.fullness import Fullness
 from rekhuso.plans.gains import gains
 from rekhuso.plans.least import FittingPlaces, least_for
-from rekhuso.plans.loads import STEP_PARTS
+from rekhuso.plans.loads import Laid, STEP_PARTS
+from rekhuso.plans.parts import ordered_parts
+from rekhuso.plans.plan import DEFAULT_WISH, Outcome, opened, planned
 from rekhuso.plans.step_order import StepOrder, parts_in_order
 from rekhuso.plans.steps import PlanStep
 from rekhuso.plans.worth import fullest_after
@@ -74,6 +85,20 @@ def with_lines(dump: Json, lines: list[str]) -> Json:
             (items if word == "rm-pg-upmap-items" else sets).pop(group)
     found["pg_upmap_items"] = [{"pgid": group, "mappings": own} for group, own in items.items()]
     found["pg_upmap"] = [{"pgid": group, "osds": own} for group, own in sets.items()]
+    return found
+
+
+def rises_in(outcome: Outcome, is_parted: bool) -> list[float]:
+    """By how much the fullest OSD gets fuller by steps of a plan, or of its parts: it counts as no less full than it is
+    at the end of all, and of the part.
+    """
+    assert outcome.measure
+    full, found, begin = fullest_after(outcome.measure, outcome.steps), list[float](), 0
+    for part in outcome.parts if is_parted else [outcome.steps]:
+        end = begin + len(part)
+        own = [max(ratio, full[end], full[-1]) for ratio in full[begin : end + 1]]
+        found += [after - before for before, after in zip(own, own[1:]) if after > before + 1e-9]
+        begin = end
     return found
 
 
@@ -170,6 +195,29 @@ class PlansEnd(StockCase):
         self.assertEqual([step.group for step in own][0], "1.0")
         self.assertEqual(fullest_after(Measure(spread, None, {}, {}), own)[1:], [1.1, 1.0, 1.0])
 
+    def test_order_beside_full_disks(self) -> None:
+        """Where steps are left for the sake of disks that are nearly full, the fullest OSD gets fuller by none of those
+        that are taken, unless it would by each of them; no disk gets too full by them.
+        """
+        rng, cut, kept = random.Random(7), 0, 0
+        for _ in range(300):
+            steps = [step_of(f"1.{at:x}", *rng.sample(range(5), 2)) for at in range(10)]
+            spread = Spread(
+                {osd: rng.randint(8, 14) for osd in range(5)}, {osd: rng.uniform(9, 12) for osd in range(5)}
+            )
+            limits = {osd: own + rng.randint(0, 3) for osd, own in spread.has.items()}
+            order = StepOrder(spread, None, steps, limits=limits)
+            own = [step for part in ordered_parts(order, ALL) for step in part]
+            full = fullest_after(Measure(spread, None, {}, {}), own)
+            come = Counter(osd for step in own for osd in step.comes())
+            self.assertTrue(all(spread.has[osd] + count <= limits[osd] for osd, count in come.items()))
+            if order.left and any(other > one + 1e-9 for one, other in zip(full, full[1:])):
+                ways = [fullest_after(Measure(spread, None, {}, {}), [step])[1] for step in own]
+                self.assertGreater(min(ways), full[0])
+            cut += bool(order.left and len(own) + len(order.left) < len(steps))
+            kept += bool(order.left and own)
+        self.assertGreater(min(cut, kept - cut), 20)
+
     def test_order_of_rings(self) -> None:
         """Of small plans with rings an order is found in which the fullest OSD gets fuller by no step, of nine in ten
         that have one, as trying all orders shows; no order that is found is another plan.
@@ -207,6 +255,42 @@ class PlansEnd(StockCase):
         self.assertGreater(there, 50)
         self.assertGreater(found, 0.9 * there)
 
+    def test_order_of_plans(self) -> None:
+        """The fullest OSD gets fuller by no command of a plan, however far it is carried out: by groups, by data and
+        for room; and where it is made in parts, by none within a part.
+        """
+        for name in FEW:
+            source = Source(tuple(map(str, self.dumps(name))), None, self.program, None, None, False)
+            whole = view_of(source)
+            held = {pool["id"]: 2**30 * (1 + pool["id"] % 5) ** 3 for pool in whole.pools}
+            data = Data("", held, {}, {}, 0, 0, {}, {})
+            ways: list[dict[str, Any]] = [{}, {"data": data}, {"data": data, "is_room": True}]
+            for more in ways + [{**way, "batch": 6} for way in ways]:
+                with ExitStack() as stack, self.subTest(name=name, more=sorted(more)):
+                    outcome = planned(opened(stack, whole, self.program, True), replace(DEFAULT_WISH, **more))
+                    self.assertIsNotNone(outcome.measure)
+                    self.assertEqual(outcome.parts and rises_in(outcome, "batch" in more), [])
+
+    def test_best_exchanges(self) -> None:
+        """The best exchanges between two OSDs are those that a look at each two sizes finds, of which each pool offers
+        the two nearest to the best at either side, and of which no more goes than may.
+        """
+        rng = random.Random(9)
+        for at in range(300):
+            full = Fullness({0: rng.uniform(5, 9), 1: rng.uniform(5, 9)})
+            full.add({0: BYTE_PARTS * rng.randint(8, 12), 1: BYTE_PARTS * rng.randint(2, 8)})
+            sizes, *backs = (sorted({BYTE_PARTS * rng.randint(1, 40) // 8 for _ in range(9)}) for _ in range(4))
+            most, best = (BYTE_PARTS * rng.randint(1, 9) if at % 2 else 99 * BYTE_PARTS), full.best_size(0, 1)
+            wanted: list[Exchange] = []
+            for size, (other, less) in product(sizes, enumerate(backs)):
+                below, above = ([own for own in less if (own < size - best) is is_low] for is_low in (True, False))
+                own_gains = ((full.gain(0, 1, size - own), own) for own in below[-2:] + above[:2] if size - own <= most)
+                wanted += [(-gain, 5, 1, size, other, own) for gain, own in own_gains if gain > 0]
+            found, pair = BestExchanges(7), OsdPair(full, 0, 1, Limit(most.__ge__))
+            for size in sizes:
+                pair.put(found, 5, size, Backs(enumerate(backs)))
+            self.assertEqual(found.found, sorted(wanted)[:7])
+
     def test_pools_at_rest(self) -> None:
         """Where it is known that a pool has no move there is none, whatever ways are open between OSDs that did not
         differ enough when its plan ended; and where OSDs are as they were it is known.
@@ -214,18 +298,22 @@ class PlansEnd(StockCase):
         rng, osds, apart, known = random.Random(5), range(8), 6, 0
         for _ in range(3000):
             rest, counts = AtRest(apart * STEP_PARTS), {osd: rng.randint(0, 2) for osd in osds}
+            laid = Laid(0, {}, counts, {}, frozenset())
             was, now = ({osd: STEP_PARTS * rng.randint(-6, 6) for osd in osds} for _ in range(2))
             near = {osd: own + STEP_PARTS * rng.randint(-1, 1) * rng.randint(0, 1) for osd, own in was.items()}
             open_ways = [(one, other) for one in osds for other in osds if was[one] - was[other] <= rest.apart]
             rest.put(1, was)
-            self.assertFalse(rest.has_move(1, was, counts))
+            self.assertFalse(rest.has_move(1, was, laid))
             for above in (now, near):
                 moves = [way for way in open_ways if counts[way[0]] and above[way[0]] - above[way[1]] > rest.apart]
-                is_known = not rest.has_move(1, above, counts)
+                is_known = not rest.has_move(1, above, laid)
                 self.assertFalse(is_known and moves)
+                self.assertTrue(is_known or rest.has_move(1, above, replace(laid, offset={0: 1})))
                 known += is_known
             rest.drop([1])
-            self.assertEqual(rest.has_move(1, {0: 9 * STEP_PARTS, 1: 0}, {0: 1}), True)
+            for parts, offset, may_move in ((apart, {}, False), (apart, {0: 1}, True), (apart + 1, {}, True)):
+                one = replace(laid, counts={0: 1}, offset=offset)
+                self.assertEqual(rest.has_move(1, {0: parts * STEP_PARTS, 1: 0}, one), may_move)
         self.assertGreater(known, 1000)
 
     def test_moves_that_cancel(self) -> None:

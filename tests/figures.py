@@ -104,7 +104,7 @@ TIES = [
     ),
     Tie(
         "README.md",
-        "deviation from {} to {} groups before, `plan` leaves {} to {}, and Ceph's own balancer {} to {}",
+        "deviation from {} to {} groups before. `plan` leaves {} to {}, and Ceph's own balancer {} to {}",
         span("whole_cluster", f"{MADE_UP}before", "groups: deviation")
         + span("whole_cluster", f"{MADE_UP}plan", "groups: deviation")
         + span("whole_cluster", f"{MADE_UP}osdmaptool, deviation 1", "groups: deviation"),
@@ -220,8 +220,8 @@ TIES = [
     ),
     Tie(
         "docs/FORMATS.md",
-        "take {} ms (groups of 10 over ten racks of 1 to 10 hosts), under `--stock` {} ms (groups of 20 over twenty "
-        "racks of 2 to 21 hosts)",
+        "take {} ms: groups of 10 over ten racks of 1 to 10 hosts. Under `--stock` it is {} ms: groups of 20 over "
+        "twenty racks of 2 to 21 hosts",
         one("cliffs", ".*10 racks of 1 to 10 hosts, groups of 10", "it takes")
         + one("cliffs", ".*20 racks of 2 to 21 hosts, groups of 20, straw2", "it takes"),
     ),
@@ -238,11 +238,6 @@ TIES = [
         + one("cliffs", "one change: explicit sets for 65,536 groups of size 20 over 40 OSDs", "it takes"),
     ),
     Tie("docs/PROVED.md", "It takes {} to {} minutes and proves nothing", said=("gate", RUNS)),
-    Tie(
-        "docs/DECISIONS.md",
-        "some {} instructions more for each pool",
-        said=("tried", "some {} instructions more for each pool"),
-    ),
     *(
         Tie("docs/DECISIONS.md", words, said=("tried", words))
         for words in (

@@ -209,7 +209,41 @@ class Histories(ToolCase):
         for epoch, parts in cases:
             with self.subTest(epoch=epoch):
                 profile = "plain" if epoch % 2 else "stock"
-                self.assertEqual(found[epoch], {"epoch": epoch, "profile": profile, **nothing, **parts})
+                origin = {"made": None, "by": None}
+                self.assertEqual(found[epoch], {"epoch": epoch, **origin, "profile": profile, **nothing, **parts})
+
+    def test_notes(self) -> None:
+        """Where a store tells when a change was made and by whom, so does its line; a time that has no date is left
+        out, and a change of another life, or what is no note, is no store's."""
+        told = [
+            ("", ""),
+            ("life=7,made=1764417600999 ", " at 2025-11-29T12:00:00Z"),
+            ("life=7,made=1764417600000,by=alice@host,2 ", " at 2025-11-29T12:00:00Z by alice@host,2"),
+            ("life=7,made=0,by=bob ", " by bob"),
+            ("life=7,made=18446744073709551615 ", ""),
+        ]
+        about = ["CREATE TABLE store (life INTEGER PRIMARY KEY, keep INTEGER NOT NULL) STRICT"]
+        about.append("INSERT INTO store VALUES (7, 5)")
+        every = [(epoch, f"{note}{text}") for (note, _), (epoch, text) in zip(told, rows())]
+        with store_at(self.path(), *TABLES, *about) as database:
+            fill(database, example(), every)
+        _, _, *lines = self.output("history", self.path()).splitlines()
+        self.assertEqual(
+            lines, [f"epoch {n}{words}: {line}" for n, ((_, words), (_, line)) in enumerate(zip(told, CHANGES), 2)]
+        )
+        found = [(own["made"], own["by"]) for own in self.json("history", self.path())["changes"]]
+        times = (None, 1764417600999, 1764417600000, None, (1 << 64) - 1)
+        self.assertEqual(found, list(zip(times, (None, None, "alice@host,2", "bob", None))))
+        cases = [
+            ("life=8,made=1 ", "the store has a change of another store: its log is not its own"),
+            ("life=7 ", "the store is damaged"),
+            ("later ", "the store is damaged"),
+        ]
+        for number, (note, reason) in enumerate(cases):
+            path = self.path(f"wrong-{number}")
+            with store_at(path, *TABLES, *about) as database:
+                fill(database, example(), [(2, f"{note}{rows()[0][1]}")])
+            self.is_told(self.tools.run("history", path), 2, f"{path}: {reason}", note)
 
     def test_maps(self) -> None:
         """The map of each epoch is the one that the independent program has after the changes up to it."""

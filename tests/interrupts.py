@@ -152,7 +152,7 @@ class Interrupts(ToolCase):
                 done.send_signal(signal.SIGINT)
                 output, error = done.communicate(timeout=SECONDS)
                 if "KeyboardInterrupt" in error:
-                    self.assertNotIn(str(TOOLS.name), error)
+                    self.assertNotIn(f'File "{TOOLS}', error)
                 else:
                     self.assertIn((done.returncode, error), [(-2, ""), (-2, "interrupted\n"), (0, "")], output)
 

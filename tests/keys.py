@@ -29,15 +29,15 @@ TYPES: dict[str, type] = {
 }
 # The keys of a map whose entries are objects of a kind.
 OF_OBJECTS = {"buckets": "a bucket", "rules": "a rule", "pools": "a pool", "osds": "an OSD"}
-# A key where it is read, behind its kind, or before what it is read into.
-KEY = r'^ +(?:\w+: [A-Z]\w+ "(\w+)",|"(\w+)" => member\(.*)\n'
+# A key where it is read, behind its kind.
+KEY = r'^ +(?:\w+: )?(?:[A-Z]|\$)\w+ "(\w+)",?\n'
 
 
 def read_keys(module: str) -> list[set[str]]:
     """The keys of each object that a module of `partjson` reads, as they stand beside one another."""
     source = text("crates", "partjson", "src", f"{module}.rt")
     runs = [found[0] for found in re.finditer(f"(?:{KEY})+", source, re.M)]
-    return [{one or other for one, other in re.findall(KEY, run, re.M)} for run in runs]
+    return [set(re.findall(KEY, run, re.M)) for run in runs]
 
 
 def told_keys(heading: str) -> list[str]:

@@ -25,7 +25,7 @@ FILES = {
     "balancer": ("limits",),
     "ticketlock": ("limits",),
     "epochlog": ("row",),
-    "serving": ("runs",),
+    "server": ("runs",),
     "session": ("holding",),
     "partjson": ("whole",),
     "osdmapstore": ("line",),
@@ -96,7 +96,7 @@ TOLD: list[tuple[str, str, str]] = [
     ),
     ("docs/FORMATS.md", "`weight` is the reweight, 0 to {}, where", "crush.FULL_WEIGHT"),
     ("docs/FORMATS.md", "Each list has at most {} entries, under `--stock` {};", KEYS),
-    ("docs/FORMATS.md", "a well-formed forest over {} devices;", "buckets.MAX_DEVICES"),
+    ("docs/FORMATS.md", "a well-formed forest over {} devices. 14", "buckets.MAX_DEVICES"),
     ("docs/FORMATS.md", "| 22 | weight: at most {} |", "crush.FULL_WEIGHT"),
     (
         "docs/FORMATS.md",
@@ -115,9 +115,9 @@ TOLD: list[tuple[str, str, str]] = [
     ),
     ("docs/FORMATS.md", "or nested deeper than {} |", "partjson.MAX_DEPTH"),
     ("docs/FORMATS.md", "more than {} levels |", "partjson.MAX_DEPTH"),
-    ("docs/FORMATS.md", "MAP SCRIPT..` takes 1 to {} scripts.", "serving.MAX_SCRIPTS"),
+    ("docs/FORMATS.md", "MAP SCRIPT..` takes 1 to {} scripts.", "server.MAX_SCRIPTS"),
     ("docs/FORMATS.md", "how many changes the journal holds: 1 to {}, and", "epochlog.MAX_CAPACITY"),
-    ("docs/FORMATS.md", "serves at most {} scripts as `osdmapd` does", "serving.MAX_SCRIPTS"),
+    ("docs/FORMATS.md", "serves at most {} scripts as `osdmapd` does", "server.MAX_SCRIPTS"),
     ("docs/FORMATS.md", "`--keep N` (0 to {};", "osdmapstore.MOST_KEPT"),
     ("docs/CEPH.md", "as one map has at most {} pools", "mapparts.MAX_POOLS"),
     ("docs/CEPH.md", "A round has at most {} moves a pool", "balancer.MAX_MOVES"),
@@ -157,8 +157,8 @@ TOLD: list[tuple[str, str, str]] = [
     ("docs/DESIGN.md", "up to {} lines, and then the hold is given back", "session.LINES_IN_A_HOLD"),
     ("crates/balancer/README.md", "the `limit` of moves (1 to {})", "balancer.MAX_MOVES"),
     ("crates/ticketlock/README.md", "the lock and its seats, 1 to {};", "ticketlock.MAX_SEATS"),
-    ("crates/serving/README.md", "how many changes the run takes, 1 to {},", "epochlog.MAX_CAPACITY"),
-    ("crates/serving/README.md", "whose epoch is 1 to {},", "mapparts.MAX_FIRST_EPOCH"),
+    ("crates/server/README.md", "how many changes the run takes, 1 to {},", "epochlog.MAX_CAPACITY"),
+    ("crates/server/README.md", "whose epoch is 1 to {},", "mapparts.MAX_FIRST_EPOCH"),
 ]
 
 

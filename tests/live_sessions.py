@@ -10,6 +10,7 @@ import errno
 import json
 import os
 import pathlib
+import re
 import select
 import subprocess
 import tempfile
@@ -19,6 +20,7 @@ from typing import IO
 
 from tests import model
 from tests.cases import EXAMPLE, HERE, Case
+from tests.whole_maps import ON_OSDS, map_of, osds_of, pool_of, rule_of
 
 Process = subprocess.Popen[bytes]
 SECONDS = 60
@@ -81,6 +83,18 @@ class Live:
         """The answer of a line."""
         self.put(line.encode() + b"\n")
         return self.line() or "no answer"
+
+    def memory(self) -> int:
+        """The bytes that it has in memory."""
+        text = pathlib.Path(f"/proc/{self.process.pid}/status").read_text("utf-8")
+        return 1024 * int(re.findall(r"^VmRSS:\s+(\d+) kB", text, re.M)[0])
+
+    def settled_memory(self, most: int, seconds: float = 10) -> int:
+        """The bytes that it has in memory, once these are fewer than so many, or some time has gone by."""
+        end = time.monotonic() + seconds
+        while self.memory() >= most and time.monotonic() < end:
+            time.sleep(0.01)
+        return self.memory()
 
     def left_error(self) -> bytes:
         """What it has told on standard error; its other pipes are closed."""
@@ -249,6 +263,25 @@ class LiveSessions(Case):
         answers = done.stdout.split(b"\n")
         self.assertEqual(answers[1:100_001], [b"up 1 1.0 [3,2,0] 3", b"epoch 1"] * 50_000)
         self.assertEqual(answers[100_001], b"dump " + dump.encode())
+
+    def test_memory_goes_back(self) -> None:
+        """What a long line and a long answer take of memory the process has no more once the answer is out. A program
+        with checks in place of proofs keeps what is given back."""
+        if self.program.suffix == ".checked":
+            self.skipTest("the program has checks in place of proofs")
+        bucket = {"id": -1, "kind": "straw2", "type": 10, "items": [[osd, 65536] for osd in range(8)]}
+        stated = map_of([bucket], [rule_of(ON_OSDS)], [pool_of(1, 65536, 3)], osds_of(8), version=2)
+        with tempfile.TemporaryDirectory() as name:
+            path = pathlib.Path(name) / "map"
+            path.write_text(json.dumps(stated))
+            live = Live(self.program, "--stock", path, "-")
+            self.assertEqual((live.line(), live.ask("epoch")), ("session 1", "epoch 1"))
+            before = live.memory()
+            self.assertEqual(live.ask("x" * (8 << 20)), "err 33 BadCommand")
+            answer = live.ask("ups 1")
+            self.assertEqual((answer[:8], answer.count("[")), ("ups 1 1 ", 65536))
+            self.assertLess(live.settled_memory(before + (2 << 20)) - before, 2 << 20)
+            self.assertEqual(live.end(), (0, "", ""))
 
     def test_answers_to_files(self) -> None:
         """Each script's answers go to a file of its own, with its heading; standard input and output may be among them,

@@ -3,13 +3,14 @@
 
     tests/model.py MAP SCRIPT
 
-answers the lines `up`, `count`, `groups`, `epoch`, `dump`, `balance`, `change` and `apply`, as far as nothing in them
-is refused. The answers of examples/balance and of the larger map of forty_osds.py come from here; `model_placements.py`
-holds it against the placements that Ceph's own tools gave.
+answers the lines `up`, `ups`, `count`, `groups`, `epoch`, `dump`, `balance`, `change`, `apply`, `follow`, `fup` and
+`fups`, as far as nothing in them is refused. The answers of examples/balance and of the larger map of forty_osds.py
+come from here; `model_placements.py` holds it against the placements that Ceph's own tools gave.
 """
 
 from __future__ import annotations
 
+import copy
 import functools
 import json
 import pathlib
@@ -486,6 +487,9 @@ def answer(cluster: Cluster, line: str) -> str:
         return "dump " + cluster.written()
     if word == "up":
         return f"up {cluster.epoch} {rest} {placed(cluster, rest)}"
+    if word == "ups":
+        sets = [set_text(cluster.up(group)) for group in cluster.groups() if group[0] == int(rest)]
+        return " ".join([f"ups {cluster.epoch} {rest}", *sets])
     if word in ("count", "groups"):
         found = [group for group in cluster.groups() if int(rest) in cluster.up(group)]
         text = len(found) if word == "count" else "[" + ",".join(map(group_text, found)) + "]"
@@ -500,8 +504,17 @@ def answer(cluster: Cluster, line: str) -> str:
 
 def answers(value: Json, lines: list[str]) -> list[str]:
     """The answers of the lines of a session over a map."""
-    cluster = Cluster(value)
-    return [answer(cluster, line) for line in lines if line]
+    cluster, follower = Cluster(value), Cluster(value)
+    told: list[str] = []
+    for line in filter(None, lines):
+        if line == "follow":
+            follower = copy.deepcopy(cluster)
+            told.append(f"follow {follower.epoch}")
+        elif line.startswith(("fup ", "fups ")):
+            told.append("f" + answer(follower, line[1:]))
+        else:
+            told.append(answer(cluster, line))
+    return told
 
 
 def main() -> None:

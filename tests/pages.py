@@ -59,9 +59,10 @@ OTHER_NAMES = {
     "hold_always_gives_back",
     "await",
     "fup",
+    "fups",
     "fkept",
     "fdump",
-    "fkept",
+    "ups",
     "verify_upmap",
     "check_pg_upmaps",
     "ok",
@@ -94,7 +95,7 @@ MAP_KEYS = " ".join(
     {*maps.Map.__annotations__, *maps.Pool.__annotations__, *maps.Osd.__annotations__}
     - {"version", "epoch", "id", "kind", "rule", "size", "up", "weight"}
 )
-LINES = "up count groups epoch dump change apply await balance follow fup fkept fdump"
+LINES = "up ups count groups epoch dump change apply await balance follow fup fups fkept fdump"
 WORDS_OF_LISTS = {
     "A kind of bucket": ("uniform list tree straw2", 0.75),
     "A line of a script": (LINES, 0.6),
@@ -260,7 +261,7 @@ def options_of_programs() -> list[str]:
     """The options of the programs, without their hyphens."""
     files = (("cli", "arguments"), ("osdmapd", "line"), ("osdmapstore", "line"))
     lines = [text("crates", crate, "src", f"{name}.rt") for crate, name in files]
-    return re.findall(r'\.long\("([\w-]+)"\)', "".join(lines))
+    return re.findall(r'(?:\.long\(|_option\(alloc, |flag\(alloc, )"([\w-]+)"', "".join(lines))
 
 
 def has_most(source: str, words: list[str], share: float, flags: int = re.M) -> bool:

@@ -155,10 +155,14 @@ def exceptions(rng: random.Random, osds: int, pools: Pools, change: Json) -> Non
             change.setdefault(key, []).append(come.get(key, name))
 
 
-def questions(osds: int, pools: Pools) -> list[str]:
-    """Every group's up set, every OSD's count and groups, and the map."""
+def questions(osds: int, pools: Pools, is_stock: bool) -> list[str]:
+    """Every group's up set, every OSD's count and groups, and the map; under `--stock` also the sets of every pool, at
+    the monitor and by the follower."""
     lines = [f"up {pool}.{number:x}" for pool, number in groups_of(pools)]
-    return lines + [f"{word} {osd}" for word in ("count", "groups") for osd in range(osds)] + ["dump"]
+    lines += [f"{word} {osd}" for word in ("count", "groups") for osd in range(osds)]
+    if is_stock:
+        lines += [*(f"ups {pool}" for pool in pools), "follow", *(f"fups {pool}" for pool in pools)]
+    return [*lines, "dump"]
 
 
 class History:
@@ -172,7 +176,7 @@ class History:
         for epoch in range(1, CHANGES + 1):
             change = random_change(rng, osds, pools, kinds)
             self.lines.append("change " + json.dumps(dict(change, base=epoch)))
-            self.asked.append((len(self.lines), questions(osds, pools)))
+            self.asked.append((len(self.lines), questions(osds, pools, "straw2" in kinds)))
             self.lines += self.asked[-1][1]
 
     def answers(self, program: pathlib.Path, folder: pathlib.Path, text: str, lines: list[str]) -> list[str]:

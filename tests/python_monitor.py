@@ -19,8 +19,10 @@ from rekhuso.faults import Trouble
 
 from tests import model, soak
 from tests.cases import EXAMPLE, EXAMPLES, TOP, Case, example
+from tests.clusters import Json
 from tests.runs import zipped
 from tests.tool_cases import AS_MONITOR
+from tests.whole_maps import FULL, ON_HOSTS, map_of, osds_of, pool_of, rule_of
 
 SECONDS = 60
 
@@ -92,6 +94,33 @@ class PythonMonitor(Case):
                 Monitor("{}", self.program, sessions=3, timeout=SECONDS)
             self.assertEqual(refused.exception.name, "BadField")
 
+    def test_whole_pools(self) -> None:
+        """The up sets of whole pools are those of their groups, under `stock` and without it: also where places are
+        empty, where no OSD is left, in each of two sessions, and once OSDs are down."""
+        hosts = [{"id": -2 - at, "items": [[at, FULL]], "kind": "list", "type": 1} for at in range(4)]
+        root = {"id": -1, "items": [[-2 - at, FULL] for at in range(4)], "kind": "list", "type": 10}
+        parts = [["take", -1], ["chooseleaf_indep", 0, 1], ["emit"]]
+        pools: list[Json] = [pool_of(7, 5, 3), pool_of(1, 64, 6, 1, "erasure"), pool_of(2, 1, 2)]
+        strange: list[Json] = [pool_of(3, 1), pool_of(2, 2)]
+        value: Json = map_of([root, *hosts], [rule_of(ON_HOSTS), rule_of(parts, 1, "erasure")], pools, osds_of(4))
+        groups = [f"{pool['id']}.{number:x}" for pool in pools for number in range(pool["pg_num"])]
+        for stock in (False, True):
+            with self.subTest(stock=stock), Monitor(value, self.program, sessions=2, stock=stock) as monitor:
+                for down in ([], [3], [0, 1, 2]):
+                    if down:
+                        monitor.change(down=down)
+                    for session in monitor.sessions:
+                        ups = session.ups(groups)
+                        self.assertEqual(list(session.pool_ups(pools).items()), list(ups.items()))
+                        places = {group: up.places for group, up in ups.items()}
+                        self.assertEqual(list(session.pool_sets(pools).items()), list(places.items()))
+                self.assertEqual(session.pool_ups(pools[:0]), {})
+                with self.assertRaises(Refused) as refused:
+                    session.pool_ups(strange[:1])
+                self.assertEqual(refused.exception.name, "UnknownPool")
+                with self.assertRaises(Fault):
+                    session.pool_sets(strange[1:])
+
     def test_timeout(self) -> None:
         """A question that takes longer than a monitor's timeout ends the program; so does a program that opens no
         pipe."""
@@ -125,6 +154,8 @@ class PythonMonitor(Case):
                     functools.partial(session.raw, ["epoch", "epoch"]),
                     functools.partial(session.change, down=[1]),
                     functools.partial(session.ups, ["1.0"]),
+                    functools.partial(session.pool_ups, value["pools"]),
+                    functools.partial(session.pool_sets, value["pools"]),
                 ]
                 for ask in asks:
                     with self.assertRaises(Closed) as closed_fault:
@@ -154,6 +185,8 @@ class PythonMonitor(Case):
                 "is_stock",
                 "left",
                 "one",
+                "pool_sets",
+                "pool_ups",
                 "program",
                 "raw",
                 "sessions",

@@ -34,7 +34,7 @@ WAYS = ("a script", "lines twice", "typed", "to a file")
 REFUSED = b"err 30 Memory\n"
 # So many growths are refused before it is looked whether the runs came to them.
 SECONDS, STEP = 60, 64
-TWICE = (b"change ", b"apply ", b"balance ", b"groups ", b"follow", b"dump")
+TWICE = (b"change ", b"apply ", b"balance ", b"groups ", b"follow", b"dump", b"ups ", b"fups ")
 # What may find no memory; `up`, `count`, `epoch` and `await` take none.
 NEEDS = (*TWICE, b"fup ", b"fdump")
 
@@ -159,7 +159,7 @@ class Stock(Example):
             "weight": [[3, 30000]],
         }
         lines = ["up 1.0", "groups 2", f"change {json.dumps(brought)}", "up 1.0", "balance 1 2", "groups 2", "dump"]
-        lines += ['apply {"down":[1],"new_items":[["1.0",[[0,5]]]]}', "up 1.0"]
+        lines += ['apply {"down":[1],"new_items":[["1.0",[[0,5]]]]}', "up 1.0", "ups 1", "fups 1"]
         (folder / "map.json").write_text(json.dumps(stated))
         (folder / "script.txt").write_text("".join(f"{line}\n" for line in lines))
         (folder / "answers.txt").write_text(

@@ -1,13 +1,16 @@
 """Maps whose groups are placed in threads: pools about the size from which they are, in maps about the number of groups
 from which there is more than one room.
 
-Each map is opened three times: on all processors that there are; on one; and with the first threads refused that the
-program asks for. The up set of each group and the groups of each OSD are those of model.py each time. How many threads
-the program asks for is told by a library that is loaded before it (refuse_threads.c).
+Each map is opened three times: on all processors that there are; on one; and with all threads refused that the program
+asks for, but for that of its session. Then an OSD gets another reweight, another CRUSH map comes, and each group gets a
+pair. What each change evaluates, the up set of each group and the groups of each OSD, at the beginning and after each
+change, are those of model.py each time. How many threads the program asks for is told by a library that is loaded
+before it (refuse_threads.c).
 """
 
 from __future__ import annotations
 
+import json
 import os
 import pathlib
 import shutil
@@ -23,8 +26,10 @@ from tests.rows import MAPS, with_values, written
 OSDS, SECONDS = 5, 300
 # A map of fewer groups has one room, and so has a pool of fewer. There are as many rooms as processors, 16 at most.
 MANY, LARGE, MOST = 4096, 1024, 16
-# The processors that there are, the threads that are refused, and whether rooms get any.
-WAYS = (("on all processors", None, 0), ("on one processor", 1, 0), ("with threads refused", None, 7))
+# Each group is placed when the map is opened, and by each of three changes.
+TIMES = 4
+# The processors that there are, and whether rooms get threads.
+WAYS = (("on all processors", None, True), ("on one processor", 1, True), ("with threads refused", None, False))
 
 
 def a_map(sizes: tuple[int, ...]) -> Json:
@@ -37,6 +42,22 @@ def a_map(sizes: tuple[int, ...]) -> Json:
     items = [[osd, 65536 * (1 + osd % 3)] for osd in range(OSDS)]
     values: Any = {"buckets/0/items": items, "buckets/0/kind": "list", "max_osd": OSDS, "osds": osds, "pools": pools}
     return with_values(MAPS["one device"], values)
+
+
+def changes_of(value: Json) -> list[str]:
+    """Changes of all groups of such a map: a reweight, another CRUSH map, and a pair for each."""
+    buckets = [
+        {**bucket, "items": [[osd, 65536 * (3 - osd % 3)] for osd in range(OSDS)]} for bucket in value["buckets"]
+    ]
+    pairs = [
+        [f"{pool['id']}.{group:x}", [[0, 1 + group % 3]]] for pool in value["pools"] for group in range(pool["pg_num"])
+    ]
+    changes: list[Json] = [
+        {"weight": [[0, 32768]]},
+        {"new_crush": {"buckets": buckets, "rules": value["rules"]}},
+        {"new_items": pairs},
+    ]
+    return [f"change {json.dumps({'base': at, **change})}" for at, change in enumerate(changes, value["epoch"])]
 
 
 def processors() -> int:
@@ -59,12 +80,14 @@ class Rooms(Case):
         return library
 
     def opened(
-        self, files: list[pathlib.Path], library: pathlib.Path, most: int | None, refused: int
+        self, files: list[pathlib.Path], library: pathlib.Path, most: int | None, spared: int
     ) -> tuple[str, str]:
-        """What a run answers, and a letter for each thread that it asks for."""
+        """What a run answers, and a letter for each thread that it asks for: where a number is spared, the thread of
+        this number alone is made."""
         marks = files[0].parent / "threads"
         marks.unlink(missing_ok=True)
-        given = {"LD_PRELOAD": str(library), "REFUSE_THREADS": str(refused), "THREADS": str(marks)}
+        given = {"LD_PRELOAD": str(library), "REFUSE_THREADS": str(1000 if spared else 0), "THREADS": str(marks)}
+        given["SPARE_THREAD"] = str(spared)
         words: list[Any] = [self.program, *files]
         if most is not None:
             words = ["taskset", "-c", str(min(os.sched_getaffinity(0))), *words]
@@ -73,27 +96,30 @@ class Rooms(Case):
         return done.stdout, marks.read_text() if marks.exists() else ""
 
     def asked_for(self, sizes: tuple[int, ...], most: int | None) -> int:
-        """How many threads a run asks for: one for its session, and for each large pool as many as there are rooms but
-        one, which is placed in the thread that opens the map."""
+        """How many threads a run asks for each time that it places the groups: for each large pool as many as there are
+        rooms but one, whose part is placed in the thread that opens or changes the map. A change that names
+        all groups asks for as many."""
         rooms = min(most or MOST, processors(), MOST) if sum(sizes) >= MANY else 1
-        return 1 + (rooms - 1) * sum(1 for groups in sizes if groups >= LARGE)
+        return (rooms - 1) * sum(1 for groups in sizes if groups >= LARGE)
 
     def test_sizes(self) -> None:
         """The groups of each map are where the model has them, however many threads place them."""
         self.needs("taskset", shutil.which("taskset") is not None)
         for sizes in ((1023, 1024, 2049), (4095,), (3, 1023, 3070)):
             value = a_map(sizes)
-            lines = [f"up {number}.{group:x}" for number, groups in enumerate(sizes, 1) for group in range(groups)]
-            lines += [f"groups {osd}" for osd in range(OSDS)]
+            asks = [f"up {number}.{group:x}" for number, groups in enumerate(sizes, 1) for group in range(groups)]
+            asks += [f"groups {osd}" for osd in range(OSDS)]
+            lines = asks + [line for change in changes_of(value) for line in (change, *asks)]
             wanted = "".join(line + "\n" for line in ["session 1", *model.answers(value, lines)])
             with tempfile.TemporaryDirectory() as name:
                 folder = pathlib.Path(name)
                 library, files = self.library(folder), [folder / "map", folder / "script"]
                 files[0].write_text(written(value))
                 files[1].write_text("".join(line + "\n" for line in lines))
-                for way, most, refused in WAYS:
+                for way, most, gets_threads in WAYS:
                     with self.subTest(f"pools of {sizes} groups {way}"):
                         asked = self.asked_for(sizes, most)
-                        answers, threads = self.opened(files, library, most, min(refused, asked - 1))
+                        # The thread of the session comes behind those that place the groups of the map.
+                        answers, threads = self.opened(files, library, most, 0 if gets_threads else asked + 1)
                         self.assertEqual(answers, wanted)
-                        self.assertEqual(len(threads), asked)
+                        self.assertEqual(len(threads), TIMES * asked + 1)

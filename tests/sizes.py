@@ -21,9 +21,11 @@ LIMIT = 300
 MANY, HEAVY = 120, 12
 # A filling that repeats one instruction is counted byte by byte; without it as many instructions as are run.
 HONEST = {"GLIBC_TUNABLES": "glibc.cpu.x86_rep_stosb_threshold=10000000"}
-# Parts of changes that are made in turn: of a state, of a reweight, of a pair of the first group.
+# Parts of changes that are made in turn: of a state, of a reweight, of one that no rule reaches, of a pair of the first
+# group.
 STATES = ('"down":[5]', '"up":[5]')
 WEIGHTS = ('"weight":[[5,32768]]', '"weight":[[5,65536]]')
+SPARE = ('"weight":[[32,32768]]', '"weight":[[32,65536]]')
 PAIRS = ('"new_items":[["1.0",[[29,31]]]]', '"new_items":[["1.0",[[28,31]]]]')
 
 
@@ -32,8 +34,15 @@ def changes(count: int, *parts: str) -> list[str]:
     return [f'change {{"base":{1 + at},{parts[at % len(parts)]}}}' for at in range(count)]
 
 
+def pair_each(pools: int) -> list[str]:
+    """Changes of a pair of the first group of each pool."""
+    named = [",".join(f'["{number}.0",[[{osd},31]]]' for number in range(1, pools + 1)) for osd in (29, 28)]
+    return changes(HEAVY, *(f'"new_items":[{pairs}]' for pairs in named))
+
+
 def cluster(osds: int, pools: int, groups: int = 16) -> Map:
-    """Hosts of four OSDs in straw2 buckets, and pools of so many groups under one rule."""
+    """Hosts of four OSDs in straw2 buckets, and pools of so many groups under one rule. What is left of the OSDs stands
+    in no bucket."""
     hosts = range(osds // 4)
     root = {"id": -1, "kind": "straw2", "type": 10, "items": [[-2 - host, 4 * 65536] for host in hosts]}
     below = [
@@ -79,10 +88,17 @@ class Sizes(Case):
                 self.assertLess(self.cost(many, own) / self.cost(few, own), most[name])
 
     def test_pools(self) -> None:
-        """A line that names one pool, or none, costs little more where there are 256 pools than where there is one; a
-        pair is put among the patches of all pools."""
+        """A line that names one pool, or none, costs little more where there are 256 pools than where there is one."""
         lines = {"up": ["up 1.7"] * MANY, "down": changes(MANY, *STATES), "pair": changes(MANY, *PAIRS)}
-        self.compare(cluster(32, 256), cluster(32, 1), lines, {"up": 1.3, "down": 1.1, "pair": 3.5})
+        self.compare(cluster(32, 256), cluster(32, 1), lines, {"up": 1.3, "down": 1.1, "pair": 1.3})
+
+    def test_all_pools(self) -> None:
+        """What looks at all pools, or names a group of each, costs as they do, and not as their square: a reweight that
+        no rule reaches, and a pair of a group of each pool."""
+        many, few = cluster(33, 256), cluster(33, 16)
+        self.compare(many, few, {"weight": changes(HEAVY, *SPARE)}, {"weight": 16})
+        with self.subTest(name="pairs"):
+            self.assertLess(self.cost(many, pair_each(256)) / self.cost(few, pair_each(16)), 20)
 
     def test_groups(self) -> None:
         """What evaluates all groups costs as they do, and not as their square: 16 times as many cost less than 20 times

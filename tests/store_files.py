@@ -11,6 +11,7 @@ import re
 import shutil
 import sqlite3
 import subprocess
+import time
 from collections.abc import Callable, Iterator
 from typing import Any, ClassVar
 
@@ -57,6 +58,8 @@ TABLES = [
 ABOUT = ("store", "CREATE TABLE store (life INTEGER PRIMARY KEY, keep INTEGER NOT NULL) STRICT")
 MISSING, FOREIGN = "there is no store at this path", "the file is not a store"
 UNOPENED, DAMAGED = "the file cannot be opened", "the store is damaged, or another program has written it"
+MIXED = "the store has a change of another store: its log is not its own"
+BAD_WORD = "the word of --by is not 1 to 64 characters of visible ASCII\n"
 NOBODY = 65534
 # So many places of a store, and so many of its log, are damaged, and so many lengths cut, beside those at edges.
 PLACES, LOG_PLACES, LENGTHS = (2000, 2000, 200) if os.environ.get("LONG") else (200, 80, 20)
@@ -388,8 +391,124 @@ class StoreFiles(StoreCase):
             self.assertEqual(self.ran("--backup", to, *options, self.store), Done(0, f"epoch {LAST}\n", ""))
             lives.add(self.noted(to)[0])
             self.assertEqual((len(lives), self.noted(to)[1]), (count, 3))
-            self.assertEqual(held(to), held(self.store))
+            copy, own = held(to), held(self.store)
+            self.assertEqual((copy.first, copy.rows), (own.first, own.rows))
             self.assertEqual(self.ran("--life", to).output, f"epoch {LAST}\nlife {self.noted(to)[0]}\n")
+
+    def test_notes(self) -> None:
+        """Beside each change stands the number of the store's life, and when the change was made, by the clock; a copy
+        has the same, and one that goes on by itself its own number."""
+        begin = time.time_ns() // 1_000_000
+        lines = LINES.splitlines(keepends=True)
+        every: list[list[object]] = [["--begin", EXAMPLE], [], []]
+        for at, words in enumerate(every):
+            self.assertEqual(self.ran(*words, self.store, "-", text=lines[at]).error, "")
+        notes, life = held(self.store).notes, self.noted()[0]
+        self.assertEqual([(note[0], note[2]) for note in notes if note], [(life, None)] * 3)
+        times = [begin, *(note[1] for note in notes if note), time.time_ns() // 1_000_000]
+        self.assertEqual(times, sorted(times))
+        copies: list[list[object]] = [[], ["--restore"]]
+        for options in copies:
+            to = self.folder / f"copy-{len(options)}"
+            self.assertEqual(self.ran("--backup", to, *options, self.store).error, "")
+            own = self.noted(to)[0]
+            self.assertEqual(own == life, not options)
+            self.assertEqual(held(to).notes, [(own, *note[1:]) for note in notes if note])
+            self.assertEqual(self.ran(to, "-", text=lines[3]).error, "")
+
+    def test_word(self) -> None:
+        """The word of `--by` stands beside each change of the run; a copy has it, and a word that no note can have is a
+        fault of the command line, told before the store is touched."""
+        lines = LINES.splitlines(keepends=True)
+        words = ["alice", "!", "~" * 64, "a,b=c;made=1", "--"]
+        self.assertEqual(self.ran("--by", words[0], "--begin", EXAMPLE, self.store, "-", text=lines[0]).error, "")
+        for word, line in zip(words[1:], lines[1:]):
+            self.assertEqual(self.ran(f"--by={word}", self.store, "-", text=line).error, "")
+        self.assertEqual([note and note[2] for note in held(self.store).notes], words)
+        self.answered(LAST, self.whole())
+        copy = self.folder / "copy"
+        self.assertEqual(self.ran("--by=x", "--backup", copy, "--restore", self.store).error, "")
+        self.assertEqual([note and note[2] for note in held(copy).notes], words)
+        for word in ("", "~" * 65, "two words", "tab\t", "\n", "\x7f", "\xe4", "\xe4" * 32, " "):
+            with self.subTest(word=word):
+                before = files_of(self.store)
+                self.assertEqual(self.ran(f"--by={word}", self.store, "-"), Done(1, "", BAD_WORD))
+                self.assertEqual(self.ran(f"--by={word}", "--begin", "none", "none"), Done(1, "", BAD_WORD))
+                self.assertEqual(files_of(self.store), before)
+        twice = Done(1, "", "standard input is given twice\n")
+        self.assertEqual(self.ran("--by=", self.store, "-", "-"), twice)
+
+    def test_no_notes_in_the_older_form(self) -> None:
+        """A store without a number has no notes; one whose changes have none is read, and has them from then on where
+        it has a number."""
+        for tables, is_noted in ((TABLES, False), ([*TABLES, ABOUT], True)):
+            with self.subTest(is_noted=is_noted):
+                self.store = self.folder / f"store-{is_noted}"
+                self.made(*(text for _, text in tables))
+                with opened(self.store) as database:
+                    database.execute("insert into map values (1, ?)", (model.Cluster(example()).written(),))
+                    database.executemany("insert into journal values (?, ?)", [(n, row(n)) for n in (2, 3)])
+                    if is_noted:
+                        database.execute("insert into store values (7, 9)")
+                done = self.ran(self.store, "-", text=LINES.splitlines(keepends=True)[2])
+                self.assertEqual((done.status, done.error), (0, ""))
+                found = held(self.store)
+                self.assertEqual(found.rows, [(n, row(n)) for n in (2, 3, 4)])
+                notes = [note and (note[0], note[2]) for note in found.notes]
+                self.assertEqual(notes, [None, None, (7, None) if is_noted else None])
+
+    def test_damaged_notes(self) -> None:
+        """What stands in front of a change and is no note is damage, and a change of another life is refused."""
+        self.five()
+        life, kept = self.noted()[0], files_of(self.store)
+        wrong = [
+            "life=",
+            "life=1",
+            "life=1,",
+            "life=x,made=1",
+            f"life={life},made=",
+            f"life={life},made=1,to=x",
+            "later",
+        ]
+        for text in [*wrong, f"life={1 << 63},made=1", f"life={life},made={1 << 64}"]:
+            with self.subTest(text=text):
+                self.with_text(kept, f"{text} {row(3)}")
+                self.refused(DAMAGED)
+        self.with_text(kept, "life=1")
+        self.refused(DAMAGED)
+        for text in (f"life={life + 1},made=1", f"life={life + 1},made=1,by=x"):
+            self.with_text(kept, f"{text} {row(3)}")
+            self.refused(MIXED)
+            self.refused(MIXED, "--backup", self.folder / "none", self.store)
+        for text in (f"life={life},made=0,by=x,y", f"life={life},made={(1 << 64) - 1}"):
+            self.with_text(kept, f"{text} {row(3)}")
+            self.answered(LAST, self.whole())
+
+    def with_text(self, kept: dict[str, bytes], text: str) -> None:
+        """The store with five changes, and this text as its second row."""
+        for name, data in kept.items():
+            self.file(name, data)
+        with opened(settled(self.store)) as database:
+            database.execute("update journal set change = ? where epoch = 3", (text,))
+        settled(self.store)
+        sum_anew(self.store)
+
+    def test_log_of_another_store(self) -> None:
+        """A log that was left beside a file which took the place of its own is told, also where that file is a copy
+        that goes on by itself, with the same epochs."""
+        self.begun(LINES)
+        copy = self.folder / "copy"
+        self.assertEqual(self.ran("--backup", copy, "--restore", self.store).error, "")
+        for path in (self.store, copy):
+            live = Live(self.command, path, "-")
+            live.put(f'change {{"base":{LAST},"weight":[[0,7]]}}\n'.encode())
+            for _ in range(3):
+                self.assertIsNotNone(live.line())
+            live.process.kill()
+            live.end()
+        shutil.copyfile(log_of(self.store), log_of(copy))
+        self.store = copy
+        self.refused(MIXED)
 
     def test_looking(self) -> None:
         """A start without a script cuts nothing off, however many changes there are, and leaves the file as it is; one

@@ -1,25 +1,30 @@
 """Many changes of one store through many restarts: what is left of its history; and 200,000 changes through three
 restarts, each run with as many as one may take. That waits for as many syncs, so it is run where LONG is set
-(`tests/run.py --long`). A supervisor starts a run again once its journal is full: then no change is refused."""
+(`tests/run.py --long`). A supervisor starts a run again once its journal is full: then no change is refused, where LONG
+is set of 200,000, and `rekhuso history --at` gives the map of any of their epochs."""
 
 from __future__ import annotations
 
 import contextlib
 import os
 import pathlib
+import random
 import subprocess
+import sys
 import threading
 from collections.abc import Iterator
 
-from tests.cases import EXAMPLE
+from tests import model
+from tests.cases import EXAMPLE, TOP, example
 from tests.live_sessions import Lines
 from tests.stores import FULL, SECONDS as PATIENCE, Done, StoreCase, held, nearly, written_change
 
 CHANGES, MOST, SECONDS = 200_000, 65_536, 1800
 # So many starts, each with so many changes; and so many changes are left where there are more than twice so many.
 STARTS, EACH, KEPT = 50, 23, 256
-# A service has a journal for so many changes, and so many are made; a run that ends full has this status.
-JOURNAL, ASKED, ENDED_FULL = 23, 500, 8
+# A service has a journal for so many changes, and so many are made; a run that ends full has this status. Of so many
+# epochs the map is asked for.
+JOURNAL, ASKED, ENDED_FULL, EPOCHS = (MOST, CHANGES, 8, 20) if os.environ.get("LONG") else (23, 500, 8, 3)
 RUNS = [range(first, min(first + MOST, CHANGES + 1)) for first in range(1, CHANGES + 1, MOST)]
 
 
@@ -31,6 +36,14 @@ def weight_at(epoch: int) -> list[list[int]]:
 def line_at(epoch: int) -> str:
     """The change of an epoch."""
     return f'change {{"base":{epoch},"weight":{weight_at(epoch)}}}'
+
+
+def map_at(epoch: int) -> str:
+    """The map of an epoch, by the last reweight of each OSD up to it."""
+    value = example()
+    last = {own: made for at in range(max(1, epoch - 4), epoch) for own, made in weight_at(at)}
+    osds = [{**osd, "weight": last.get(osd["id"], osd["weight"])} for osd in value["osds"]]
+    return model.Cluster({**value, "epoch": epoch, "osds": osds}).written()
 
 
 class Service:
@@ -50,7 +63,7 @@ class Service:
     def run(self) -> None:
         """Starts the program until it ends well."""
         while not self.ends or self.ends[-1].status:
-            done = subprocess.run(self.words, capture_output=True, text=True, timeout=PATIENCE)
+            done = subprocess.run(self.words, capture_output=True, text=True, timeout=SECONDS)
             self.ends.append(Done(done.returncode, "", done.stderr))
 
     @contextlib.contextmanager
@@ -125,7 +138,14 @@ class StoreRestarts(StoreCase):
         full = Done(ENDED_FULL, "", nearly(JOURNAL) + FULL)
         self.assertEqual(service.ends, [*[full] * runs, Done(0, "", "")])
         self.judge_rows(range(1, 1 + ASKED), self.played(EXAMPLE, [])[-1])
-        self.assertEqual(self.ran(self.store), Done(0, f"epoch {1 + ASKED}\n", ""))
+        before = self.store.read_bytes()
+        self.assertEqual(self.ran(self.store, seconds=SECONDS), Done(0, f"epoch {1 + ASKED}\n", ""))
+        for epoch in (1, 1 + ASKED, *random.Random(ASKED).sample(range(2, 1 + ASKED), EPOCHS)):
+            tool = [sys.executable, TOP / "tools" / "rekhuso", "history", self.store, "--at", str(epoch)]
+            words = [str(word) for word in (*tool, "--program", self.program)]
+            told = subprocess.run(words, capture_output=True, text=True, timeout=SECONDS)
+            self.assertEqual((told.returncode, told.stdout, told.stderr), (0, f"{map_at(epoch)}\n", ""), epoch)
+        self.assertEqual(self.store.read_bytes(), before)
 
     def test_scripts_when_full(self) -> None:
         """Scripts are answered to their end, also where the run ends as its journal is full; where it is not full, the

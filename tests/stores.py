@@ -7,6 +7,7 @@ import contextlib
 import dataclasses
 import os
 import pathlib
+import re
 import shutil
 import sqlite3
 import struct
@@ -25,6 +26,8 @@ BUILT = TOP / "crates" / "osdmapstore" / "out" / "osdmapstore"
 SECONDS = 60
 # What a run tells once it has made all the changes that its journal has room for.
 FULL = "journal: full, so this run takes no more changes\n"
+# What stands beside a change: the number of the store's life, when it was made, and by whom.
+NOTE = re.compile(r"^life=([0-9]+),made=([0-9]+)(?:,by=([^ ]+))? ")
 # The bytes at the end of each page that have its sum, and where the first page says how many there are.
 SUM_BYTES, RESERVED_AT = 8, 20
 
@@ -51,10 +54,12 @@ class Done:
 
 @dataclasses.dataclass(frozen=True)
 class Stored:
-    """What a store holds: its first map, and each change since with the epoch that it made."""
+    """What a store holds: its first map, each change since with the epoch that it made, and what stands beside each:
+    the number of the store's life, when it was made, and by whom."""
 
     first: tuple[int, str]
     rows: list[tuple[int, str]]
+    notes: list[tuple[int, int, str | None] | None]
 
     @property
     def last(self) -> int:
@@ -91,12 +96,21 @@ def opened(store: pathlib.Path) -> Iterator[sqlite3.Connection]:
         yield database
 
 
+def note_of(text: str) -> tuple[int, int, str | None] | None:
+    """What stands in front of a row's change, if anything does."""
+    found = NOTE.match(text)
+    return (int(found[1]), int(found[2]), found[3]) if found else None
+
+
 def held(store: pathlib.Path) -> Stored:
     """What a store holds, by sqlite3, which is given a copy of its files and finds them sound."""
     with tempfile.TemporaryDirectory() as folder, opened(copied(store, pathlib.Path(folder) / "copy")) as database:
         assert database.execute("pragma integrity_check").fetchall() == [("ok",)], "the database is not sound"
         (first,) = database.execute("select epoch, text from map").fetchall()
-        return Stored(first, database.execute("select epoch, change from journal order by epoch").fetchall())
+        rows = database.execute("select epoch, change from journal order by epoch").fetchall()
+        return Stored(
+            first, [(epoch, NOTE.sub("", text, 1)) for epoch, text in rows], [note_of(text) for _, text in rows]
+        )
 
 
 def settled(store: pathlib.Path) -> pathlib.Path:

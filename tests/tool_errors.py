@@ -381,6 +381,28 @@ class ToolErrors(ToolCase):
                 with self.subTest(answer=answer, words=words[0]):
                     self.is_told(other.run(*words), 2, "another program: to ", words)
 
+    def test_answers_for_whole_pools(self) -> None:
+        """So is one whose answer for a whole pool has another pool, another epoch, another form or another number of
+        groups."""
+        own = STOCK["004-one-host"]
+        dumps = [self.tools.put(key, own[key]) for key in ("osd_dump", "crush_dump")]
+        epoch, other = own["osd_dump"]["epoch"], Tools(self.tools.program, self.tools.folder)
+        for answer in (
+            f"ups {epoch} 99 [0,1,2]",
+            f"ups {epoch + 1} $2 [0,1,2]",
+            f"ups {epoch} $2",
+            f"ups {epoch} $2 [0,1,2] [0,1,x]",
+            f"ups {epoch} $2 [0,1,2],[0,1,2]",
+            f"ups {epoch} $2 [0,1,2] [0,1,2]",
+            f"ups {epoch} $2 0",
+        ):
+            script = f'while read -r word pool; do set -- "$word" "$pool"; echo "{answer}"; done'
+            other.program = self.tools.put("other", f"{AS_MONITOR}echo session 1\n{script}\n")
+            other.program.chmod(0o755)
+            for words in (["df", *dumps], ["whatif", *dumps, "--out", "3"], ["plan", *dumps]):
+                with self.subTest(answer=answer, words=words[0]):
+                    self.is_told(other.run(*words), 2, "another program: to 'ups ", words)
+
     def test_standard_input_without_a_text(self) -> None:
         """Standard input that is closed, empty or no UTF-8 is told, and a shell without input has nothing to do."""
         for words, end, status, told in (

@@ -30,7 +30,7 @@ PROMISES = {
         *(f"pgtable/src/table.rt {name}" for name in ("up", "count", "count_in", "groups")),
     ),
     "plans": ("balancer/src/plans.rt plan",),
-    "sessions, and what their store keeps": ("serving/src/runs.rt serve", "serving/src/runs.rt serve_map"),
+    "sessions, and what their store keeps": ("server/src/runs.rt serve", "server/src/runs.rt serve_map"),
     "a store's files": (
         *(f"mapstore/src/opening.rt {name}" for name in ("begin", "open")),
         *(f"journalstore/src/store.rt {name}" for name in ("append", "checkpoint", "is_running")),

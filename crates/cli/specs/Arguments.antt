@@ -15,7 +15,7 @@ use Rattle.clap.specs.Simple.{App, matches_of, new_rule}
 use Rattle.epochlog.specs.Epochs.{max_capacity}
 use Rattle.mapparts.specs.declared.profile.Profile.{Profile}
 use Rattle.mapparts.specs.declared.profile.Profile.TheVariants.{Plain, Stock}
-use Rattle.serving.specs.Serving.{max_scripts}
+use Rattle.server.specs.Serving.{max_scripts}
 use Rattle.cli.specs.declared.choices.SessionOptions.{SessionOptions}
 use Rattle.cli.specs.declared.choices.LineError.{LineError}
 use Rattle.cli.specs.declared.choices.LineError.TheVariants.{Help, Usage, TooMany, Unpaired, Memory}

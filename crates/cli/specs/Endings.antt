@@ -7,8 +7,8 @@ use Rattle.refusal.specs.Refusals.{name_of}
 use Rattle.cli.specs.declared.choices.SessionOptions.{SessionOptions}
 use Rattle.cli.specs.declared.choices.LineError.{LineError}
 use Rattle.cli.specs.declared.choices.LineError.TheVariants as line
-use Rattle.serving.specs.declared.fault.Fault.{Fault}
-use Rattle.serving.specs.declared.fault.Fault.TheVariants as fault
+use Rattle.server.specs.declared.fault.Fault.{Fault}
+use Rattle.server.specs.declared.fault.Fault.TheVariants as fault
 use Rattle.cli.specs.declared.ending.Ending.{Ending}
 use Rattle.cli.specs.declared.ending.Ending.TheVariants.{Usage, NoText, TooManyScripts, Unpaired, TwoInputs, TwoOutputs, Map, File, Output, Told, Lost, Memory}
 use Rattle.cli.specs.Arguments.{is_standard}

@@ -5,7 +5,7 @@ ghost use Rattle.clap.specs.Matches.{found_of};
 ghost use Rattle.clap.specs.Values.{kind_of};
 ghost use Rattle.clap.specs.Walk.{rows_of, first_of};
 ghost use Rattle.epochlog.specs.Epochs.{max_capacity};
-ghost use Rattle.serving.specs.Serving.{max_scripts};
+ghost use Rattle.server.specs.Serving.{max_scripts};
 ghost use Rattle.cli.specs.Arguments.{journal_rule, stock_rule, to_rule, IsReadBy, HasNoJournal, IsJournalIn, IsProfileIn};
 ghost use Rattle.cli.specs.Arguments.{paths_in, ArePaired, AreFoundSessions, Chooses, TellsOf};
 
@@ -14,7 +14,7 @@ use clap::error::ErrorKind;
 use clap::{Arg, ArgAction, ArgMatches, Error, value_parser};
 use epochlog::MAX_CAPACITY;
 use mapparts::Profile;
-use serving::MAX_SCRIPTS;
+use server::MAX_SCRIPTS;
 use std::alloc::{AllocError, Global};
 
 /// `--journal N`.

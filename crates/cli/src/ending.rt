@@ -2,7 +2,7 @@
 
 use crate::choices::LineError;
 use refusal::Refusal;
-use serving::Fault;
+use server::Fault;
 use std::{fmt, io};
 use thiserror::Error;
 

@@ -9,7 +9,7 @@ ghost use Rattle.cli.specs.Endings.{file_ending, status_of, ChecksStreams};
 use crate::choices::SessionOptions;
 use crate::ending::Ending;
 use refusal::Memory;
-use serving::{Part, Source, Streams, System, Target};
+use server::{Part, Source, Streams, System, Target};
 use std::alloc::AllocError;
 use std::rt::Files;
 use std::sync::Arc;

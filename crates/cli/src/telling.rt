@@ -7,7 +7,7 @@ ghost use Rattle.cli.specs.Endings.{run_status, status_of, EndsServed, TellsLine
 use crate::choices::LineError;
 use crate::ending::Ending;
 use crate::files::put_out;
-use serving::Fault;
+use server::Fault;
 use std::process::ExitCode;
 
 /// Ends a run: where something kept it from being done, standard error tells why.

@@ -1,1 +1,3 @@
+pub mod Journals
+pub mod Stores
 pub mod Epochs

@@ -6,8 +6,8 @@ ghost use Rattle.refusal.specs.declared.refused.Refusal.TheVariants.{BadLimit};
 ghost use Rattle.epochlog.specs.Epochs.{epoch_of, is_within_limits, IsRowSize};
 
 use crate::error::NotSealed;
+use crate::kept::Kept;
 use crate::pass::Pass;
-use keeping::Kept;
 use mapparts::limits;
 use maptypes::Incremental;
 use refusal::{Memory, Refusal};

@@ -24,4 +24,5 @@ IsPutInto fresh old new = (osd : ℕ) → osd_list new osd ≡ draft_list old fr
 abbrev pub FindsPlace : ℕ → List (ℕ × List ℕ) → Option (Vec (List ℕ)) → Type 0
 FindsPlace lists fresh None = KeysBelow lists fresh
 FindsPlace lists fresh (Some room) =
-    (lists ≤ length room.items) × (KeysBelow (length room.items) fresh × (AreForOsds room.items × AreAllEmpty room.items))
+    (lists ≤ length room.items) × (KeysBelow (length room.items) fresh
+    × (AreForOsds room.items × AreAllEmpty room.items))

@@ -2,7 +2,7 @@
 
 use cli::LineError;
 use refusal::Refusal;
-use serving::Fault;
+use server::Fault;
 use session::{SessionError, WriteFailed};
 use std::alloc::Global;
 use std::fmt;

@@ -58,7 +58,7 @@ pub fn open_for_two<R: Threads + Sync>(
 pub const DOWN: &str = r#"{"base":1,"down":[0]}"#;
 
 /// Commits the change of a text at the present epoch; or why it is refused.
-pub fn commit_now<R: Wait>(
+pub fn commit_now<R: Wait + Threads + Sync>(
     rt: &R,
     alloc: Global,
     monitor: &Monitor,

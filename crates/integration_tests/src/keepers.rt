@@ -1,7 +1,7 @@
 //! Stores that find no memory, fail or do not forget, by examples.
 
 use crate::examples::incremental;
-use keeping::{Keeper, Keeps, NotKept, Nothing};
+use epochlog::{Keeper, Keeps, NotKept, Nothing};
 use maptypes::Incremental;
 use std::alloc::Global;
 use std::test::Fail;

@@ -2,8 +2,7 @@
 ghost use Rattle.std.specs.Prelude.{◌≡◌, IfSome};
 
 use crate::examples::incremental;
-use epochlog::{Pass, Row};
-use keeping::{Keeper, Kept, Nothing};
+use epochlog::{Keeper, Kept, Nothing, Pass, Row};
 use refusal::Refusal;
 use std::alloc::Global;
 use std::test::Fail;

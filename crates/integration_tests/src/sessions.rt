@@ -203,7 +203,7 @@ impl<'a> Gate for Meeting<'a> {
 }
 
 /// How a session ends behind such a gate.
-fn run_behind_gate<R: Wait>(
+fn run_behind_gate<R: Wait + Threads + Sync>(
     rt: &R,
     alloc: Global,
     monitor: &Monitor,

@@ -48,6 +48,7 @@ unfolding understood everything
 plain bare = ((refl, refl), (refl, refl), (refl, refl))
 plain noted = ((refl, refl), (refl, refl), (refl, refl))
 
+-- nor has the one that notes of the store what is told
 notes_plain : IsPlain (understood (schema_of noted) about_update_text)
 unfolding understood everything
 notes_plain = (refl, refl)
@@ -80,6 +81,7 @@ on_rows task mode command db tally after h =
 pub survives_none : (s : State) → Survives s s (λ _. ⊥)
 survives_none s = record { clean = omega arith; shield = λ h. h; counts = omega arith; limit = refl; closes = λ clean was. inl was; crash = λ clean db may. inl may }
 
+-- and what was committed stays committed
 pub keeps_none : (s : State) → KeepsCommit s s
 keeps_none s = record { was_open = λ h. h; committed = λ h. refl }
 

@@ -15,7 +15,7 @@ use Rattle.sqlite_trees.specs.Tree.{put_row, rowid}
 use Rattle.sqlite_value.specs.Order.{value_cmp}
 use Rattle.sqlite_value.proofs.OrderLemmas.{value_cmp-Int}
 use Rattle.journalstore.specs.Tables.{stored_row}
-use Rattle.journalstore.specs.Texts.{Entry, Texts, with_change, IsAfter, AreRising, row_epoch, entry_of, IsEntryRow, AreEntries, StandsFor}
+use Rattle.journalstore.specs.Texts.{Entry, Texts, bare_text, with_change, IsAfter, AreRising, row_epoch, entry_of, IsEntryRow, AreEntries, StandsFor}
 use Rattle.journalstore.proofs.AppendLemmas.{Appends}
 
 -- a row above all others goes to the end
@@ -44,22 +44,22 @@ rising_more (a ∷ entries) e rise below = (all_more (λ (b : Entry). a.0 < b.0)
 
 -- rows that say entries say one entry more once the row of a later epoch is put in
 appended : (rows : List Row) (entries : List Entry) (n : ℕ) (change : List ℕ) → AreEntries rows entries → All (λ (e : Entry). e.0 < n) entries
-    → AreEntries (put_row (stored_row (pos n) change) rows) (entries ++ (n, change) ∷ [])
+    → AreEntries (put_row (stored_row (pos n) change) rows) (entries ++ (n, bare_text change) ∷ [])
 appended rows entries n change are below =
     let new = stored_row (pos n) change in
     let low = All-permutation (λ (e : Entry). e.0 < n) entries (map entry_of rows) (IsPermutation-sym (map entry_of rows) entries are.same) below in
     let last : put_row new rows ≡ rows ++ new ∷ [] = put_last new rows (rows_below n rows (recursion_from_All IsEntryRow rows are.say) (recursion_from_All (λ (e : Entry). e.0 < n) (map entry_of rows) low)) in
-    subst (λ rs. AreEntries rs (entries ++ (n, change) ∷ [])) (sym last) (record {
+    subst (λ rs. AreEntries rs (entries ++ (n, bare_text change) ∷ [])) (sym last) (record {
       say = All-push IsEntryRow rows new are.say (refl, refl);
-      same = subst (λ es. IsPermutation es (entries ++ (n, change) ∷ [])) (sym (map-append entry_of rows (new ∷ []))) (IsPermutation-append_left ((n, change) ∷ []) (map entry_of rows) entries are.same);
-      rise = rising_more entries (n, change) are.rise (recursion_from_All (λ (e : Entry). e.0 < n) entries below);
+      same = subst (λ es. IsPermutation es (entries ++ (n, bare_text change) ∷ [])) (sym (map-append entry_of rows (new ∷ []))) (IsPermutation-append_left ((n, bare_text change) ∷ []) (map entry_of rows) entries are.same);
+      rise = rising_more entries (n, bare_text change) are.rise (recursion_from_All (λ (e : Entry). e.0 < n) entries below);
     })
 
 -- after an append of a later epoch the database stands for the texts with that change
-pub stands_with : (old new : Trees) (t : Texts) (n : ℕ) (change : List ℕ) → StandsFor old t → IsAfter t n → Appends (pos n) change old new → StandsFor new (with_change t (n, change))
+pub stands_with : (old new : Trees) (t : Texts) (n : ℕ) (change : List ℕ) → StandsFor old t → IsAfter t n → Appends (pos n) change old new → StandsFor new (with_change t (n, bare_text change))
 stands_with old new t n change stands after it = record {
   first = subst (λ rows. AreEntries rows (t.first ∷ [])) (sym it.maps) stands.first;
-  changes = subst (λ rows. AreEntries rows (t.changes ++ (n, change) ∷ [])) (sym it.journal) (appended (old 0) t.changes n change stands.changes after);
+  changes = subst (λ rows. AreEntries rows (t.changes ++ (n, bare_text change) ∷ [])) (sym it.journal) (appended (old 0) t.changes n change stands.changes after);
 }
 
 -- an element of a list is its first, or one of the others

@@ -68,6 +68,7 @@ unfolding understood everything
 changes_plain bare = (refl, refl)
 changes_plain noted = (refl, refl)
 
+-- so it is under the schema of a store
 pub plain_changes : (s : Schema) → IsOfStore s → IsPlain (understood s changes_text)
 plain_changes s of = subst (λ d. IsPlain (understood d changes_text)) (sym of.1) (changes_plain of.0)
 
@@ -77,6 +78,7 @@ unfolding understood everything
 map_plain bare = (refl, refl)
 map_plain noted = (refl, refl)
 
+-- the same under the schema of a store
 pub plain_map : (s : Schema) → IsOfStore s → IsPlain (understood s map_text)
 plain_map s of = subst (λ d. IsPlain (understood d map_text)) (sym of.1) (map_plain of.0)
 
@@ -130,6 +132,7 @@ unfolding Shown
 about_same_in bare old new rows has h = absurd (let wrong = sym h.1.is ∙ ap (λ s. understood s about_text) has ∙ about_none.1 in cc)
 about_same_in noted old new rows has h = same_shown about_text old new rows (subst (λ s. IsPlain (understood s about_text)) (sym has) about_plain) h
 
+-- so it does in a store of either form
 pub about_same : (old new : State) (rows : List Row) → IsOfStore old.now.schema → Shown about_text [] old new rows → IsUnchanged old new
 about_same old new rows of h = about_same_in of.0 old new rows of.1 h
 

@@ -7,7 +7,7 @@ use Rattle.sqlite.specs.Tree.{Trees}
 use Rattle.sqlite.specs.Effect.{Database}
 use Rattle.sqlite.specs.State.{State, HasCleanDisk, Survives, Executes, CommitsBy, IsUnchanged}
 use Rattle.journalstore.specs.Tables.{IsOfStore, insert_text}
-use Rattle.journalstore.specs.Texts.{Entry, Texts, begun_with, with_change, IsAfter, StandsFor}
+use Rattle.journalstore.specs.Texts.{Entry, Texts, bare_text, begun_with, with_change, IsAfter, StandsFor}
 use Rattle.journalstore.specs.declared.reading.StoredText.{StoredText}
 use Rattle.journalstore.specs.declared.reading.StoredTexts.{StoredTexts}
 use Rattle.journalstore.specs.Read.{entry_read, texts_read}
@@ -103,7 +103,7 @@ module _ (old new : State) (n : ℕ) (change : List ℕ) (survives : Survives ol
   was clean = let early : HasCleanDisk old = omega (arith, survives.clean, clean) in of early (running early)
 
   -- an append of a later epoch that succeeds leaves the store open, with the texts and that change
-  pub appends_texts : IsAfter t n → (count : ℕ) → (HasCleanDisk new → Executes insert_text (params_of n change) old new (Ok count)) → IsRunning new × IsOf new (with_change t (n, change))
+  pub appends_texts : IsAfter t n → (count : ℕ) → (HasCleanDisk new → Executes insert_text (params_of n change) old new (Ok count)) → IsRunning new × IsOf new (with_change t (n, bare_text change))
   appends_texts after count ran =
       let it = λ (clean : HasCleanDisk new). appends old new (pos n) change count (was clean).settled (ran clean) in
       (λ clean. (it clean).0.is_open, λ clean now. record { settled = (it clean).1; stands = stands_with old.now.trees new.now.trees t n change (was clean).stands after (it clean).0.appends })
@@ -115,7 +115,7 @@ module _ (old new : State) (n : ℕ) (change : List ℕ) (survives : Survives ol
       record { settled = kept.1; stands = subst (λ (d : Database). StandsFor d.trees t) (sym kept.0.shown) (was clean).stands }
 
   -- a crash during an append leaves the texts from before it or those with the change, and no others
-  pub crash_texts : IsAfter t n → LeavesOnly old (λ db. StandsFor db t) → LeavesOnly new (λ db. StandsFor db t ⊎ StandsFor db (with_change t (n, change)))
+  pub crash_texts : IsAfter t n → LeavesOnly old (λ db. StandsFor db t) → LeavesOnly new (λ db. StandsFor db t ⊎ StandsFor db (with_change t (n, bare_text change)))
   crash_texts after leaves clean db may = elim (survives.crash clean db may) [
     | inl earlier ↦ inl (leaves (omega (arith, survives.clean, clean)) db earlier)
     | inr commit ↦ inr (stands_with old.now.trees db t n change (was clean).stands after (commits old (pos n) change (was clean).settled db commit))

@@ -1,7 +1,7 @@
 -- The words of the errors.
 use Rattle.std.specs.Prelude.{◌≢◌, ℕ, List, codes}
 use Rattle.journalstore.specs.declared.error.StoreError.{StoreError}
-use Rattle.journalstore.specs.declared.error.StoreError.TheVariants.{Missing, LogAlone, Taken, NoFolder, NoRight, NoCopy, Moving, Unopened, InUse, Foreign, Damaged, Begun, EpochTooLarge, EpochTaken, TextTooLong, Full, Disk, Memory, Shut}
+use Rattle.journalstore.specs.declared.error.StoreError.TheVariants.{Missing, LogAlone, Taken, NoFolder, NoRight, NoCopy, Moving, Unopened, InUse, Foreign, Mixed, Damaged, Begun, EpochTooLarge, EpochTaken, TextTooLong, Full, Disk, Memory, Shut}
 
 -- what an error says
 abbrev pub said : StoreError → List ℕ
@@ -15,6 +15,7 @@ said Moving = codes "the store was written faster than it was copied"
 said Unopened = codes "the file cannot be opened"
 said InUse = codes "the store is in use"
 said Foreign = codes "the file is not a store"
+said Mixed = codes "the store has a change of another store: its log is not its own"
 said Damaged = codes "the store is damaged, or another program has written it"
 said Begun = codes "the store has a first map already"
 said EpochTooLarge = codes "the epoch is above 2^63 - 1"

@@ -72,13 +72,14 @@ map_table = table_of (codes "map") 1 (text_columns (codes "text"))
 abbrev pub about_table : Table
 about_table = table_of (codes "store") 2 (key_column (codes "life") ∷ number_column (codes "keep") ∷ [])
 
-abbrev pub tables_of : Form → List Table
-tables_of bare = journal_table ∷ map_table ∷ []
-tables_of noted = journal_table ∷ map_table ∷ about_table ∷ []
+-- the tables of a form
+abbrev pub form_tables : Form → List Table
+form_tables bare = journal_table ∷ map_table ∷ []
+form_tables noted = journal_table ∷ map_table ∷ about_table ∷ []
 
 -- the tables, and nothing else
 abbrev pub schema_of : Form → Schema
-schema_of f = record { tables = tables_of f; indexes = []; views = [] }
+schema_of f = record { tables = form_tables f; indexes = []; views = [] }
 
 -- a schema is that of a store
 abbrev pub IsOfStore : Schema → Type 0

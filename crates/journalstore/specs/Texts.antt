@@ -1,5 +1,6 @@
 -- The texts of a journal, and when a database stands for them.
-use Rattle.std.specs.Prelude.{◌≡◌, ◌<◌, ℕ, pos, List, [], ◌∷◌, ◌++◌, map, All, IsPermutation}
+use Rattle.std.specs.Prelude.{◌≡◌, ◌<◌, ◌==◌, ℕ, pos, List, [], ◌∷◌, ◌++◌, map, All, IsPermutation, if◌then◌else◌, slice_index}
+use Rattle.std.specs.List.{after_first}
 use Rattle.sqlite.specs.declared.types.Value.{Value}
 use Rattle.sqlite.specs.declared.types.Value.TheVariants.{Int, Text as Words}
 use Rattle.sqlite.specs.Order.{Row, column, bytes}
@@ -36,11 +37,15 @@ abbrev pub row_epoch : Value → ℕ
 row_epoch (Int (pos n)) = n
 row_epoch _ = 0
 
--- what two values say
-abbrev pub entry_in : Value → Value → Entry
-entry_in epoch text = (row_epoch epoch, bytes text)
+-- a text without its note, a word in front of it that begins with `l`, and a space
+unfoldable pub bare_text : List ℕ → List ℕ
+bare_text text = if slice_index text 0 == 108 then after_first (λ c. c == 32) text else text
 
--- they are an epoch and a text
+-- what two values say: an epoch, and a text without its note
+abbrev pub entry_in : Value → Value → Entry
+entry_in epoch text = (row_epoch epoch, bare_text (bytes text))
+
+-- they are an epoch and a text, with a note or without
 abbrev pub IsEntryIn : Value → Value → Type 0
 IsEntryIn epoch text = (epoch ≡ Int (pos (row_epoch epoch))) × (text ≡ Words (bytes text))
 

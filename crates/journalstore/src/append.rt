@@ -6,7 +6,7 @@ ghost use Rattle.sqlite.specs.State.{HasCleanDisk, Survives, Executes, CommitsBy
 ghost use Rattle.sqlite.specs.Held.{state};
 ghost use Rattle.journalstore.specs.declared.error.StoreError.TheVariants.{EpochTooLarge};
 ghost use Rattle.journalstore.specs.Tables.{insert_text};
-ghost use Rattle.journalstore.specs.Texts.{with_change, IsAfter, StandsFor};
+ghost use Rattle.journalstore.specs.Texts.{bare_text, with_change, IsAfter, StandsFor};
 ghost use Rattle.journalstore.specs.Stores.{HoldsIn, LeavesIn, KeepsIn};
 
 use crate::error::StoreError;
@@ -36,10 +36,10 @@ pub(crate) fn append<S: Alter>(
     change: &str,
 ) -> Result<(), StoreError>
     ensures appends { OnOk result ((t : _) → HoldsIn S.Store conn.old t → IsAfter t epoch
-        → HoldsIn S.Store conn.new (with_change t (epoch, change.now))) }
+        → HoldsIn S.Store conn.new (with_change t (epoch, bare_text change.now))) }
     ensures kept { OnErr result ((t : _) → HoldsIn S.Store conn.old t → KeepsIn S.Store conn.new t) }
     ensures crash { (t : _) → HoldsIn S.Store conn.old t → IsAfter t epoch → LeavesIn S.Store conn.new
-        (λ db. StandsFor db t ⊎ StandsFor db (with_change t (epoch, change.now))) }
+        (λ db. StandsFor db t ⊎ StandsFor db (with_change t (epoch, bare_text change.now))) }
     ensures only { IfErr result (λ e. e ≡ EpochTooLarge → 2 ^ 63 ≤ epoch) }
     ensures refused { 2 ^ 63 ≤ epoch → (result ≡ Err EpochTooLarge) × (conn.new ≡ conn.old) }
 {

@@ -10,7 +10,7 @@ use crate::facts::{Facts, read_facts};
 use crate::files::{beside, check_there, has_log, length_of};
 use crate::opening::find;
 use crate::reading::{StoredTexts, read};
-use sqlite::{Alter, Connection, Start};
+use sqlite::{Alter, Connection, Start, params};
 use std::alloc::Global;
 use std::fs::{self, File};
 use std::io::{self, ErrorKind, Read};
@@ -24,6 +24,11 @@ const TRIES: usize = 100;
 
 /// How many names are tried for the part of a copy.
 const PARTS: u32 = 1000;
+
+/// Puts another number into each note, between its first letters and its first comma.
+const RENAME: &str =
+    "UPDATE journal SET change = 'life=' || ?1 || substr(change, instr(change, ',')) \
+WHERE change >= 'life=' AND change < 'life>'";
 
 /// The header of a log; zeros where there is none.
 fn header_of(rt: &HostRuntime, log: &str) -> Result<[u8; HEADER], StoreError> {
@@ -89,6 +94,12 @@ fn copy_files(rt: &HostRuntime, path: &str, to: (&str, &str)) -> Result<(), Stor
     Err(StoreError::Moving)
 }
 
+/// Has the notes of all changes say this number.
+fn name_life<S: Alter>(conn: &mut Connection<S>, life: i64) -> Result<(), StoreError> {
+    conn.execute(RENAME, params![life])?;
+    Ok(())
+}
+
 /// Gives a store another number, where it has a place for one.
 fn give_life<S: Alter>(
     alloc: Global,
@@ -96,8 +107,9 @@ fn give_life<S: Alter>(
     texts: &StoredTexts,
     life: Option<i64>,
 ) -> Result<(), StoreError> {
-    match (read_facts(conn)?, life) {
+    match (read_facts(conn, texts)?, life) {
         (Some(Facts { keep, .. }), Some(life)) => {
+            name_life(conn, life)?;
             checkpoint(alloc, conn, texts, Some(Facts { life, keep }))
         }
         _ => Ok(()),

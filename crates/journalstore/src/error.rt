@@ -30,6 +30,8 @@ pub enum StoreError {
     InUse,
     /// The file is no database, or not one of a store.
     Foreign,
+    /// A change in it was made in another store, or in another life of it.
+    Mixed,
     /// The file is damaged, or another program has written it, whose pages have no sums.
     Damaged,
     /// The file has a first map already.
@@ -68,6 +70,9 @@ impl fmt::Display for StoreError {
             StoreError::Unopened => "the file cannot be opened",
             StoreError::InUse => "the store is in use",
             StoreError::Foreign => "the file is not a store",
+            StoreError::Mixed => {
+                "the store has a change of another store: its log is not its own"
+            }
             StoreError::Damaged => "the store is damaged, or another program has written it",
             StoreError::Begun => "the store has a first map already",
             StoreError::EpochTooLarge => "the epoch is above 2^63 - 1",

@@ -8,6 +8,7 @@ ghost use Rattle.journalstore.specs.Read.{noted_with};
 ghost use Rattle.journalstore.specs.Stores.{HoldsIn};
 
 use crate::error::StoreError;
+use crate::reading::{StoredText, StoredTexts};
 use crate::shape::is_for_notes;
 use sqlite::{Alter, Connection, Row};
 
@@ -47,25 +48,42 @@ fn facts_in(rows: &[Row]) -> Result<Facts, StoreError>
 }
 
 /// Reads what a store with a place for it notes of itself.
-fn read_own<S: Alter>(conn: &mut Connection<S>) -> Result<Option<Facts>, StoreError>
+fn read_own<S: Alter>(conn: &mut Connection<S>) -> Result<Facts, StoreError>
     ensures holds { OnOk result ((t : _) → HoldsIn S.Store conn.old t → HoldsIn S.Store conn.new t) }
     ensures clean { HasCleanDisk (state S.Store conn.new) → HasCleanDisk (state S.Store conn.old) }
     ensures named { IfErr result IsOfFile }
 {
     let rows = conn.query_all("SELECT life, keep FROM store", &[])?;
     let facts = facts_in(rows.as_slice())?;
-    Ok(Some(facts))
+    Ok(facts)
 }
 
-/// Reads what a store notes of itself, where it has a place for that.
-pub(crate) fn read_facts<S: Alter>(conn: &mut Connection<S>) -> Result<Option<Facts>, StoreError>
+/// Tests that the changes which say a life were made in this one.
+fn check_lives(changes: &[StoredText], life: i64) -> Result<(), StoreError>
+    ensures { IfErr result IsOfFile }
+{
+    for change in changes {
+        match change.life {
+            Some(own) if own != life => return Err(StoreError::Mixed),
+            _ => {}
+        }
+    }
+    Ok(())
+}
+
+/// Reads what a store notes of itself, where it has a place for that. Of its texts the changes have to be of its life.
+pub(crate) fn read_facts<S: Alter>(
+    conn: &mut Connection<S>,
+    texts: &StoredTexts,
+) -> Result<Option<Facts>, StoreError>
     ensures holds { OnOk result ((t : _) → HoldsIn S.Store conn.old t → HoldsIn S.Store conn.new t) }
     ensures clean { HasCleanDisk (state S.Store conn.new) → HasCleanDisk (state S.Store conn.old) }
     ensures named { IfErr result IsOfFile }
 {
-    if is_for_notes(conn.schema()) {
-        read_own(conn)
-    } else {
-        Ok(None)
+    if !is_for_notes(conn.schema()) {
+        return Ok(None);
     }
+    let facts = read_own(conn)?;
+    check_lives(texts.changes.as_slice(), facts.life)?;
+    Ok(Some(facts))
 }

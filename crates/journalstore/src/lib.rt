@@ -5,7 +5,7 @@
 //! - `facts`: what a store notes beside its texts
 //! - `append`, `checkpoint`: how a change is appended, and how a new first map takes the place of the old one
 //! - `files`, `backup`: the files of a store, and a copy of them as one file
-//! - `reading`: how the texts are read
+//! - `reading`, `note`: how the texts are read, and what may stand beside one
 //! - `shape`: whether a database has the tables of a store
 //! - `exclusive`: a value that only its owner reaches
 //! - `error`: why a store does not do what it is asked
@@ -20,6 +20,7 @@ mod error;
 mod exclusive;
 mod facts;
 mod files;
+mod note;
 mod opening;
 mod reading;
 mod shape;
@@ -31,6 +32,7 @@ pub use beginning::{Beginning, begin};
 pub use begun::is_begun;
 pub use error::StoreError;
 pub use facts::Facts;
+pub use note::without_note;
 pub use opening::{FileTexts, fold_log, is_missing, open};
 pub use reading::{StoredText, StoredTexts};
 pub use store::TextStore;

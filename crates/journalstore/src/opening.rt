@@ -84,7 +84,7 @@ pub fn open<W: Start>(
     check_there(rt, path)?;
     let mut conn = find(rt, path, start)?;
     let texts = read(rt.alloc(), &mut conn)?;
-    let facts = read_facts(&mut conn)?;
+    let facts = read_facts(&mut conn, &texts)?;
     let conn = Exclusive::new(conn);
     Ok((TextStore { conn, facts }, texts))
 }

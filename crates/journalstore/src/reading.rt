@@ -9,6 +9,7 @@ ghost use Rattle.journalstore.specs.Read.{entry_read, texts_read};
 ghost use Rattle.journalstore.specs.Stores.{IsReady, HoldsIn};
 
 use crate::error::StoreError;
+use crate::note::{life_in, without_note};
 use sqlite::{Alter, Connection, Row};
 use std::alloc::Global;
 
@@ -16,7 +17,10 @@ use std::alloc::Global;
 #[derive(Drop)]
 pub struct StoredText {
     pub epoch: u64,
+    /// The text without its note.
     pub text: String,
+    /// The number of the life in which it was written, where its note says one.
+    pub life: Option<i64>,
 }
 
 /// The first map and the changes since, in the order of their epochs, as they were read.
@@ -27,13 +31,15 @@ pub struct StoredTexts {
 }
 
 /// What a row shows.
-fn text_in(row: &Row) -> Result<StoredText, StoreError>
+fn text_in(alloc: Global, row: &Row) -> Result<StoredText, StoreError>
     ensures shown { IfOk result (λ t. IsEntryShown row.now × (entry_read t ≡ entry_shown row.now)) }
     ensures named { IfErr result IsOfFile }
 {
+    let whole: String = row.get(1)?;
     Ok(StoredText {
         epoch: row.get(0)?,
-        text: row.get(1)?,
+        text: String::from_str(alloc, without_note(whole.as_str()))?,
+        life: life_in(whole.as_str())?,
     })
 }
 
@@ -46,7 +52,7 @@ pub(crate) fn texts_in(alloc: Global, rows: &[Row]) -> Result<Vec<StoredText>, S
     let mut found = Vec::new(alloc);
     let mut least = 0;
     for row in rows {
-        let text = text_in(row)?;
+        let text = text_in(alloc, row)?;
         if text.epoch < least {
             return Err(StoreError::Damaged);
         }

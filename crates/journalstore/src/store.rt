@@ -4,7 +4,7 @@ ghost use Rattle.std.specs.Prelude.{◌≡◌, ◌⊎◌, ◌≤◌, ◌^◌, tr
 ghost use Rattle.sqlite.specs.State.{HasCleanDisk};
 ghost use Rattle.sqlite.specs.Held.{state};
 ghost use Rattle.journalstore.specs.declared.error.StoreError.TheVariants.{EpochTooLarge};
-ghost use Rattle.journalstore.specs.Texts.{with_change, IsAfter, StandsFor};
+ghost use Rattle.journalstore.specs.Texts.{bare_text, with_change, IsAfter, StandsFor};
 ghost use Rattle.journalstore.specs.Read.{texts_read};
 ghost use Rattle.journalstore.specs.Stores.{Holds, Leaves, Keeps};
 
@@ -33,9 +33,9 @@ impl<S: Alter> TextStore<S> {
         self.facts
     }
 
-    /// Appends a change, with one sync of the disk. After `Ok` each crash leaves it. After an error the store holds
-    /// what it did before, unless a failure of the disk has shut it. Whatever a crash leaves holds the texts from
-    /// before, or those with the change.
+    /// Appends a change, which may have a note in front, with one sync of the disk. After `Ok` each crash leaves it.
+    /// After an error the store holds what it did before, unless a failure of the disk has shut it. Whatever a crash
+    /// leaves holds the texts from before, or those with the change.
     ///
     /// The clauses speak of an epoch above those of all changes; any other is the caller's fault.
     ///
@@ -45,10 +45,10 @@ impl<S: Alter> TextStore<S> {
     /// with it; else the disk's, `TextTooLong`, `Memory` or `Shut`.
     pub fn append(&mut self, epoch: u64, change: &str) -> Result<(), StoreError>
         ensures appends { OnOk result ((t : _) → Holds S.Store self.old t → IsAfter t epoch
-            → Holds S.Store self.new (with_change t (epoch, change.now))) }
+            → Holds S.Store self.new (with_change t (epoch, bare_text change.now))) }
         ensures kept { OnErr result ((t : _) → Holds S.Store self.old t → Keeps S.Store self.new t) }
         ensures crash { (t : _) → Holds S.Store self.old t → IsAfter t epoch → Leaves S.Store self.new
-            (λ db. StandsFor db t ⊎ StandsFor db (with_change t (epoch, change.now))) }
+            (λ db. StandsFor db t ⊎ StandsFor db (with_change t (epoch, bare_text change.now))) }
         ensures only { IfErr result (λ e. e ≡ EpochTooLarge → 2 ^ 63 ≤ epoch) }
         ensures refused { 2 ^ 63 ≤ epoch → (result ≡ Err EpochTooLarge) × (self.new ≡ self.old) }
     {
@@ -57,9 +57,9 @@ impl<S: Alter> TextStore<S> {
     }
 
     /// Makes another text the first map, and takes the old one and the changes up to its epoch away, in one
-    /// transaction; those behind it have to be the changes of `texts`. With `keep` it notes how many changes a start is
-    /// to leave, where there is a place. After an error the store holds what it did before, unless a failure of the disk
-    /// has shut it. Whatever a crash leaves holds the texts from before, or the new ones.
+    /// transaction; those behind it have to be the changes of `texts`. With `keep` it notes how many changes a start
+    /// is to leave, where there is a place. After an error the store holds what it did before, unless a failure of the
+    /// disk has shut it. Whatever a crash leaves holds the texts from before, or the new ones.
     ///
     /// # Errors
     ///

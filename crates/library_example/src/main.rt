@@ -31,7 +31,7 @@ const MAP: &str = concat!(
 const CHANGE: &str = r#"{"base":1,"weight":[[3,32768]]}"#;
 
 /// Asks where a group is, commits the change, and balances the pool by at most 10 moves: the epoch then.
-fn manage<R: Wait + Print>(
+fn manage<R: Wait + Threads + Print + Sync>(
     rt: &R,
     alloc: Global,
     monitor: &Monitor,

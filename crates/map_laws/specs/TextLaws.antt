@@ -13,5 +13,5 @@ pub record IsTextOf (text : List ℕ) (m : ClusterMap) : Type 0 where
   pub alone : (n : ClusterMap) → StatesMap Stock text n → n ≡ m
 
 -- what is written of a map whose epoch a text may have is a text of that map, so that whoever reads it has that map
-abbrev pub IsReadBack : ClusterMap → Type 0
-IsReadBack m = IsTextEpoch m.epoch → IsTextOf (written m) m
+abbrev pub IsThereAndBack : ClusterMap → Type 0
+IsThereAndBack m = IsTextEpoch m.epoch → IsTextOf (written m) m

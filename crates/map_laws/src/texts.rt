@@ -2,7 +2,7 @@
 
 ghost use Rattle.std.specs.Prelude.{◌≡◌, IfOk};
 ghost use Rattle.map_laws.specs.Laws.{IsTextEpoch};
-ghost use Rattle.map_laws.specs.TextLaws.{IsReadBack};
+ghost use Rattle.map_laws.specs.TextLaws.{IsThereAndBack};
 
 use crate::maps::{parts_state_one_map, states_itself};
 use mapjson::{read_map, write_map};
@@ -14,7 +14,7 @@ use std::alloc::Global;
 /// The text of a map of an epoch of 1 to 2,147,483,648 is read back as that map: it has no fault, and states that map
 /// and no other.
 pub fn written_map_is_read_back(map: &OsdMap)
-    ensures { IsReadBack map.now.map }
+    ensures { IsThereAndBack map.now.map }
 {
     states_itself(map);
     parts_state_one_map();

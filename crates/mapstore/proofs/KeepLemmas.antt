@@ -5,7 +5,7 @@ use Rattle.std.proofs.lemmas.List.{map-append, append_assoc}
 use Rattle.std.proofs.lemmas.List.Elements.{All-append, All-weaker}
 use Rattle.sqlite.specs.Store.{Ghosts}
 use Rattle.maptypes.specs.Incrementals.{Step}
-use Rattle.keeping.specs.Journals.{Journal, with_step, IsBeforeOrAfter}
+use Rattle.epochlog.specs.Journals.{Journal, with_step, IsBeforeOrAfter}
 use Rattle.journalstore.specs.declared.store.TextStore.{TextStore}
 use Rattle.journalstore.specs.Texts.{Entry, Texts, with_change, IsAfter, StandsFor}
 use Rattle.journalstore.specs.Stores.{Holds, Leaves}

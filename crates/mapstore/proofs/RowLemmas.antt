@@ -1,14 +1,18 @@
 -- Rows that are read one more at a time.
-use Rattle.std.proofs.Common.{◌≡◌, ◌∙◌, ℕ, zero, suc, ◌+◌, ◌<◌, ◌++◌, List, [], ◌∷◌, length, get_or, take, map, sym, ap, subst, arith}
+use Rattle.std.proofs.Common.{◌≡◌, ◌∙◌, refl, ℕ, zero, suc, ◌+◌, ◌<◌, ◌++◌, List, [], ◌∷◌, length, get_or, take, map, sym, ap, subst, arith}
 use Rattle.std.specs.List.{AllZip, Contains}
 use Rattle.std.proofs.Math.Seq.{take-suc}
 use Rattle.std.proofs.lemmas.List.{map-append}
 use Rattle.replay.specs.declared.row.Row.{Row}
 use Rattle.journalstore.specs.declared.reading.StoredText.{StoredText}
-use Rattle.journalstore.specs.Texts.{Entry}
+use Rattle.maptypes.specs.Incrementals.{Step}
+use Rattle.mapparts.specs.declared.profile.Profile.{Profile}
+use Rattle.mapparts.specs.declared.profile.Profile.TheVariants.{Plain, Stock}
+use Rattle.journalstore.specs.Texts.{Entry, bare_text}
 use Rattle.journalstore.specs.Read.{entry_read}
 use Rattle.mapstore.specs.declared.error.OpenError.{OpenError}
 use Rattle.mapstore.specs.declared.error.OpenError.TheVariants.{Store, Journal, NoProfile, LateEpoch}
+use Rattle.mapstore.specs.JournalTexts.{word_of, change_text, row_text}
 use Rattle.mapstore.specs.Openings.{IsRow, IsUnread}
 
 -- one more at the end of both lists
@@ -51,3 +55,13 @@ unread_there changes at stored within is (Journal fault) unread = absurd unread
 unread_there changes at stored within is (NoProfile epoch) (text, there, none) =
     (text, subst (Contains (map entry_read changes)) (only_there (entry_read stored) (epoch, text) there) (entry_there changes at stored within is), none)
 unread_there changes at stored within is (LateEpoch epoch) unread = absurd unread
+
+-- a text that begins with the word of a profile has no note
+bare_word : (p : Profile) (json : List ℕ) → bare_text (word_of p ++ json) ≡ word_of p ++ json
+unfolding bare_text
+bare_word Plain json = refl
+bare_word Stock json = refl
+
+-- nor has that of an incremental
+pub bare_row : (step : Step) → bare_text (row_text step) ≡ row_text step
+bare_row step = bare_word step.change.profile (change_text step)

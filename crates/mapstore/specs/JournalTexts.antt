@@ -11,7 +11,7 @@ use Rattle.partjson.specs.StatedChanges.{stated_change}
 use Rattle.mapjson.specs.Written.{written}
 use Rattle.mapjson.specs.WrittenChanges.{written_change}
 use Rattle.mapjson.specs.PartsOfChange.{change_parts}
-use Rattle.keeping.specs.Journals.{Journal}
+use Rattle.epochlog.specs.Journals.{Journal}
 use Rattle.journalstore.specs.Texts.{Entry, Texts}
 
 -- the word of a profile, and a space

@@ -5,11 +5,11 @@ use Rattle.mapstore.specs.declared.keep.Keep.{Keep}
 use Rattle.mapstore.specs.declared.keep.Keep.TheVariants.{All, AsNoted, Only}
 
 -- how many an open leaves in a store that notes this of itself
-abbrev pub count_of : Keep → Option Facts → ℕ
-count_of All facts = 4294967295
-count_of AsNoted (Some facts) = facts.keep
-count_of AsNoted None = 1024
-count_of (Only keep) facts = keep
+abbrev pub kept_count : Keep → Option Facts → ℕ
+kept_count All facts = 4294967295
+kept_count AsNoted (Some facts) = facts.keep
+kept_count AsNoted None = 1024
+kept_count (Only keep) facts = keep
 
 -- the number that the store is to note, where it notes another one
 abbrev pub note_of : Keep → Option Facts → Option ℕ

@@ -1,7 +1,7 @@
 -- While a store holds a journal, a crash leaves that one and no other.
 use Rattle.std.specs.Prelude.{◌≡◌}
 use Rattle.sqlite.specs.Store.{Ghosts}
-use Rattle.keeping.specs.Journals.{Journal}
+use Rattle.epochlog.specs.Journals.{Journal}
 use Rattle.journalstore.proofs.EntryLemmas.{one_text}
 use Rattle.mapstore.specs.OneJournal.{one_journal}
 use Rattle.mapstore.specs.Stores.{HoldsJournal, MayLeaveJournal, texts_of}

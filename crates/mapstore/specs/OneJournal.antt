@@ -11,7 +11,7 @@ use Rattle.partjson.specs.StatedChanges.{stated_change}
 use Rattle.mapjson.specs.WrittenChanges.{written_change}
 use Rattle.mapjson.specs.PartsOfChange.{change_parts}
 use Rattle.mapjson.proofs.OneText.{one_each, one_change}
-use Rattle.keeping.specs.Journals.{Journal}
+use Rattle.epochlog.specs.Journals.{Journal}
 use Rattle.journalstore.specs.Texts.{Entry, Texts}
 use Rattle.mapstore.specs.JournalTexts.{word_of, change_text, row_text, step_entry, IsTextedStep}
 use Rattle.mapstore.specs.Stores.{IsBehind, past_of, texts_of}

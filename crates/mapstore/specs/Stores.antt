@@ -3,7 +3,7 @@
 use Rattle.std.specs.Prelude.{◌≡◌, ◌≤◌}
 use Rattle.std.specs.List.{All}
 use Rattle.sqlite.specs.Store.{Ghosts}
-use Rattle.keeping.specs.Journals.{Journal}
+use Rattle.epochlog.specs.Journals.{Journal}
 use Rattle.journalstore.specs.Read.{texts_read}
 use Rattle.journalstore.specs.Stores.{Holds, MayLeave}
 use Rattle.journalstore.specs.Texts.{Entry, Texts}

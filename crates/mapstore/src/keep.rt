@@ -1,7 +1,7 @@
 //! How many changes an open leaves in a store.
 
 ghost use Rattle.std.specs.Prelude.{◌≡◌};
-ghost use Rattle.mapstore.specs.Kept.{count_of, note_of};
+ghost use Rattle.mapstore.specs.Kept.{kept_count, note_of};
 
 use journalstore::Facts;
 
@@ -22,7 +22,7 @@ pub enum Keep {
 impl Keep {
     /// How many they are in a store that notes this of itself.
     pub(crate) fn count(self, facts: Option<Facts>) -> u32
-        ensures { result ≡ count_of self facts }
+        ensures { result ≡ kept_count self facts }
     {
         match (self, facts) {
             (Keep::All, _) => u32::MAX,

@@ -97,9 +97,9 @@ pub fn adopt<S: Alter + Drop>(
     Ok((hold(alloc, texts, &past, &map, witness), map))
 }
 
-/// Makes a store with this first map and no change, which notes this of itself, where there is no file, an empty one, or a database with no table,
-/// and opens it: the store, and the map that its text states. Its file is then the store by itself. `starts` stands for
-/// what the files held, and for what they hold as they are opened.
+/// Makes a store with this first map and no change, which notes this of itself, where there is no file, an empty one,
+/// or a database with no table, and opens it: the store, and the map that its text states. Its file is then the store
+/// by itself. `starts` stands for what the files held, and for what they hold as they are opened.
 ///
 /// # Errors
 ///

@@ -1,14 +1,17 @@
 //! The store of a journal.
 
-ghost use Rattle.std.specs.Prelude.{◌≡◌, ◌≤◌, OnOk, OnErr};
+ghost use Rattle.std.specs.Prelude.{◌≡◌, ◌≤◌, string_bytes, IfOk, OnOk, OnErr};
+ghost use Rattle.journalstore.specs.Texts.{bare_text};
+ghost use Rattle.mapstore.specs.JournalTexts.{row_text, IsTextedStep};
 
 use crate::noted::Noted;
 use crate::row::write_row;
 use crate::witness::Witness;
+use epochlog::{Keeps, NotKept};
 use journalstore::{Facts, StoreError, StoredTexts, TextStore};
-use keeping::{Keeps, NotKept};
 use maptypes::Incremental;
 use osdmap::OsdMap;
+use refusal::Memory;
 use sqlite::Alter;
 use std::alloc::Global;
 
@@ -36,6 +39,20 @@ impl<S: Alter> MapStore<S> {
     {
         self.texts.facts()
     }
+
+    /// The text of an incremental, with a note where the store has a number.
+    fn write(&self, step: &Incremental) -> Result<String, Memory>
+        ensures text { IfOk result (λ t. bare_text (string_bytes t) ≡ row_text step.now) }
+        ensures states { OnOk result (IsTextedStep step.now) }
+    {
+        match self.texts.facts() {
+            Some(facts) => {
+                let note = self.witness.sign(facts.life)?;
+                write_row(self.alloc, note.as_str(), step)
+            }
+            None => write_row(self.alloc, "", step),
+        }
+    }
 }
 
 impl<S: Alter> Keeps for MapStore<S> {
@@ -56,7 +73,7 @@ impl<S: Alter> Keeps for MapStore<S> {
             self.witness.tell(StoreError::EpochTaken);
             return Err(NotKept::Failed);
         }
-        let Ok(text) = write_row(self.alloc, step) else {
+        let Ok(text) = self.write(step) else {
             return Err(NotKept::Memory);
         };
         let Err(error) = self.texts.append(step.epoch(), text.as_str()) else {

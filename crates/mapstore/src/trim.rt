@@ -55,7 +55,11 @@ fn shorten(alloc: Global, found: StoredTexts, keep: u32) -> Result<StoredTexts, 
     };
     let epoch = map.epoch();
     Ok(StoredTexts {
-        first: StoredText { epoch, text },
+        first: StoredText {
+            epoch,
+            text,
+            life: None,
+        },
         changes,
     })
 }
@@ -100,9 +104,9 @@ fn note<S: Alter>(
     Ok(texts)
 }
 
-/// Moves the first map on where there are more changes than twice as many as are to be kept; so many are then left, and
-/// what that costs comes but once in so many changes. What is left stands for the same map, which is tested before it is
-/// written: the texts that the store then holds. Where a number is told, the store notes it.
+/// Moves the first map on where there are more changes than twice as many as are to be kept; so many are then left,
+/// and what that costs comes but once in so many changes. What is left stands for the same map, which is tested before
+/// it is written: the texts that the store then holds. Where a number is told, the store notes it.
 ///
 /// # Errors
 ///

@@ -1,13 +1,14 @@
-//! Who is told that a store has failed, or that the journal of a run is full.
+//! Who is told that a store has failed, or that the journal of a run is full, and who signs each change.
 
 use journalstore::StoreError;
 use std::alloc::AllocError;
 use std::io::Stderr;
 use std::sync::Arc;
 use std::sync::atomic::{AtomicBool, Ordering};
+use std::time::Clock;
 
 /// Tells on standard error that a store has failed, and that the journal of a run is nearly full and full, and notes
-/// it. Others may note it together.
+/// it. Others may note it together. It signs each change, with the time and the word of whoever makes it.
 #[derive(Drop)]
 pub struct Witness {
     stderr: Stderr,
@@ -17,10 +18,14 @@ pub struct Witness {
     full: Arc<AtomicBool>,
     /// How many changes the journal has room for.
     journal: u32,
+    /// What has the machine's clock.
+    rt: HostRuntime,
+    /// The word of whoever makes the changes, where there is one.
+    by: Option<String>,
 }
 
 impl Witness {
-    /// One who has seen nothing yet of a run whose journal has room for so many changes.
+    /// One who has seen nothing yet of a run whose journal has room for so many changes, and has no word.
     ///
     /// # Errors
     ///
@@ -31,10 +36,12 @@ impl Witness {
             failed: Arc::new(rt.alloc(), AtomicBool::new(false))?,
             full: Arc::new(rt.alloc(), AtomicBool::new(false))?,
             journal,
+            rt: *rt,
+            by: None,
         })
     }
 
-    /// Another who notes what this one notes.
+    /// Another who notes what this one notes, and has no word.
     ///
     /// # Errors
     ///
@@ -45,6 +52,21 @@ impl Witness {
             failed: Arc::try_clone(&self.failed)?,
             full: self.full_mark()?,
             journal: self.journal,
+            rt: self.rt,
+            by: None,
+        })
+    }
+
+    /// The same with a word, by which changes are signed. Where it has a space they are not signed at all.
+    ///
+    /// # Errors
+    ///
+    /// Memory is short.
+    pub fn signing(self, word: &str) -> Result<Witness, AllocError> {
+        let by = String::from_str(self.rt.alloc(), word)?;
+        Ok(Witness {
+            by: Some(by),
+            ..self
         })
     }
 
@@ -55,6 +77,23 @@ impl Witness {
     /// There are too many who have it.
     pub fn full_mark(&self) -> Result<Arc<AtomicBool>, AllocError> {
         Ok(Arc::try_clone(&self.full)?)
+    }
+
+    /// Milliseconds since 1970 by the machine's clock; 0 where it tells none.
+    fn now(&self) -> u64 {
+        match self.rt.since_1970() {
+            Ok(time) => u64::try_from(time.as_millis()).unwrap_or(0),
+            Err(_) => 0,
+        }
+    }
+
+    /// The note of a change that is made now in a store of this life.
+    pub(crate) fn sign(&self, life: i64) -> Result<String, AllocError> {
+        let made = self.now();
+        match &self.by {
+            Some(by) => format!(in self.rt.alloc(); "life={life},made={made},by={by} "),
+            None => format!(in self.rt.alloc(); "life={life},made={made} "),
+        }
     }
 
     /// Tells why a store has failed: a line on standard error.

@@ -6,7 +6,7 @@ use Rattle.maptypes.specs.Incrementals.{Step}
 use Rattle.maptypes.specs.Ordered.{IsChange}
 use Rattle.osdmap.specs.Maps.{ClusterMap}
 use Rattle.osdmap.specs.Changes.{change_fault, apply, after, IsLawful}
-use Rattle.keeping.specs.Journals.{Journal, with_step, Follows, IsIncremental, HasAll}
+use Rattle.epochlog.specs.Journals.{Journal, with_step, Follows, IsIncremental, HasAll}
 use Rattle.mapstore_laws.specs.OpeningLaws.{IsOfMonitor}
 
 -- what holds of one incremental holds of each of it alone

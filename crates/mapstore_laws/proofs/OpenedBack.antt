@@ -20,7 +20,7 @@ use Rattle.replay.specs.declared.fault.Fault.TheVariants as fault
 use Rattle.replay.specs.Replays.{step_fault, MakesStep, IsRefused, StandFor}
 use Rattle.map_laws.specs.TextLaws.{IsTextOf}
 use Rattle.map_laws.specs.ChangeLaws.{IsTextOfChange, as_stock, IsJournalReadBack}
-use Rattle.keeping.specs.Journals.{Journal}
+use Rattle.epochlog.specs.Journals.{Journal}
 use Rattle.journalstore.specs.Texts.{Entry, Texts}
 use Rattle.mapstore.specs.declared.error.OpenError.{OpenError}
 use Rattle.mapstore.specs.declared.error.OpenError.TheVariants.{Store, Journal as NoJournal, NoProfile, LateEpoch}

@@ -9,7 +9,7 @@ use Rattle.osdmap.specs.Changes.{after, IsLawful}
 use Rattle.replay.specs.declared.fault.Fault.{Fault}
 use Rattle.replay.specs.declared.fault.Fault.TheVariants.{First, Row}
 use Rattle.map_laws.specs.Laws.{IsTextEpoch, AreChanges}
-use Rattle.keeping.specs.Journals.{Journal, HasAll}
+use Rattle.epochlog.specs.Journals.{Journal, HasAll}
 use Rattle.mapstore.specs.declared.error.OpenError.{OpenError}
 use Rattle.mapstore.specs.declared.error.OpenError.TheVariants.{Store, Journal as NoJournal, NoProfile, LateEpoch}
 use Rattle.journalstore.specs.Texts.{Entry, Texts}
@@ -54,4 +54,5 @@ with_later j later = record j { steps = j.steps ++ later }
 abbrev pub AreOpened : ClusterMap → Type 0
 AreOpened first =
     (j : Journal) (later left : List Step) → j.first ≡ first → IsOfMonitor (with_later j later)
-    → HasAll (with_later j later) (with_later j left) → IsOpenedBack (with_steps (journal_texts j) left) (with_later j left)
+    → HasAll (with_later j later) (with_later j left)
+    → IsOpenedBack (with_steps (journal_texts j) left) (with_later j left)

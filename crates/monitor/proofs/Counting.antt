@@ -18,12 +18,15 @@ pub commit_longer : (before now : List Step) (change : ChangeParts) (r : Result 
 commit_longer before now change (Ok ok) adds = ap length adds ∙ length-append before _
 commit_longer before now change (Err e) adds = omega (arith, ap length adds)
 
+-- how many epochs a number of moves makes: one, unless it is 0
 abbrev made : ℕ → ℕ
 made n = if n == 0 then 0 else 1
 
+-- any move makes one
 one_made : (n : ℕ) → n ≢ 0 → made n ≡ 1
 one_made n some = ap (λ (b : Bool). if b then 0 else 1) (ne_eqb n 0 some)
 
+-- a plan makes the history longer by the epochs that it has made
 pub plan_longer : (first : ClusterMap) (before now : List Step) (pool : ℕ) (aim : Aim) (limit : ℕ) (r : Result Balance Refusal)
     → AddsPlan first before now pool aim limit r → length now ≡ length before + plans_made r
 plan_longer first before now pool aim limit (Ok ok) adds = elim adds [

@@ -4,7 +4,7 @@ use crate::member::Member;
 use crate::monitor::Monitor;
 use crate::question::{Answer, Question, find};
 use crate::shared::Shared;
-use keeping::Keeps;
+use epochlog::Keeps;
 use maptypes::{Pg, UpSet};
 use refusal::Refusal;
 use std::sync::Wait;

@@ -4,11 +4,12 @@ use crate::locked::{apply, balance, commit};
 use crate::member::{Member, commits_made, mark_commit, mark_plan, plans_made};
 use crate::monitor::Monitor;
 use balancer::Request;
-use keeping::Keeps;
+use epochlog::Keeps;
 use maptypes::Change;
 use refusal::Refusal;
-use state::{Balance, Commit, State};
+use state::{Balance, Commit, Proposal, State};
 use std::sync::Wait;
+use std::thread::Threads;
 
 impl<K: Keeps + Drop> Monitor<K> {
     ghost use Rattle.std.specs.Prelude.{◌≡◌, true, length, Some, IfErr};
@@ -29,7 +30,7 @@ impl<K: Keeps + Drop> Monitor<K> {
     /// 26, 27); else `JournalFull` (28) where the journal has its capacity; else `Memory` (30) where there is no memory
     /// for it, `NotStored` (35) where the store does not take it or has failed before, or `NotSealed` (32) where
     /// another sealed the epoch.
-    pub fn commit<R: Wait>(
+    pub fn commit<R: Wait + Threads + Sync>(
         &self,
         rt: &R,
         member: &mut Member,
@@ -48,7 +49,13 @@ impl<K: Keeps + Drop> Monitor<K> {
     {
         let mut guard = self.hold(rt, member)?;
         let state: &mut State<K> = &mut guard.value_mut().state;
-        let answer = commit(state, &self.row, &mut member.pass, base, change);
+        let answer = commit(
+            rt,
+            state,
+            &self.row,
+            &mut member.pass,
+            Proposal { base, change },
+        );
         guard
             .value_mut()
             .count(&mut member.seen, &mut member.mine, commits_made(&answer));
@@ -63,7 +70,7 @@ impl<K: Keeps + Drop> Monitor<K> {
     /// # Errors
     ///
     /// As for [`Monitor::commit`], but that it is never refused by `StaleEpoch` (20).
-    pub fn apply<R: Wait>(
+    pub fn apply<R: Wait + Threads + Sync>(
         &self,
         rt: &R,
         member: &mut Member,
@@ -81,7 +88,7 @@ impl<K: Keeps + Drop> Monitor<K> {
     {
         let mut guard = self.hold(rt, member)?;
         let state: &mut State<K> = &mut guard.value_mut().state;
-        let answer = apply(state, &self.row, &mut member.pass, change);
+        let answer = apply(rt, state, &self.row, &mut member.pass, change);
         guard
             .value_mut()
             .count(&mut member.seen, &mut member.mine, commits_made(&answer));
@@ -100,7 +107,7 @@ impl<K: Keeps + Drop> Monitor<K> {
     /// is no such pool; else `BalanceRule` (29) where the pool's rule has more than one block; else `Memory` (30) where
     /// there is no memory for it, or where a move is good `JournalFull` (28), `NotStored` (35) or `NotSealed` (32) as
     /// for [`Monitor::commit`].
-    pub fn balance<R: Wait>(
+    pub fn balance<R: Wait + Threads + Sync>(
         &self,
         rt: &R,
         member: &mut Member,
@@ -119,7 +126,7 @@ impl<K: Keeps + Drop> Monitor<K> {
     {
         let mut held = self.hold(rt, member)?;
         let state: &mut State<K> = &mut held.value_mut().state;
-        let answer = balance(state, &self.row, &mut member.pass, request);
+        let answer = balance(rt, state, &self.row, &mut member.pass, request);
         held.value_mut()
             .count(&mut member.seen, &mut member.mine, plans_made(&answer));
         self.put_back(held, member);

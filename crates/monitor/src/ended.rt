@@ -1,7 +1,7 @@
 //! What a monitor ends with.
 
 use crate::member::Member;
-use keeping::{Keeps, Nothing};
+use epochlog::{Keeps, Nothing};
 use state::State;
 use tip::Tip;
 

@@ -6,10 +6,8 @@ ghost use Rattle.monitor.specs.Followers.{Steps};
 
 use crate::member::Member;
 use crate::monitor::Monitor;
-use cleanup::{Remnant, remnant_of};
 use crush::Work;
-use epochlog::{Pass, Row};
-use keeping::Keeps;
+use epochlog::{Keeps, Pass, Row};
 use mapjson::write_map;
 use maptypes::{Incremental, Pg, UpSet};
 use osdmap::OsdMap;
@@ -17,6 +15,7 @@ use refusal::{Memory, Refusal};
 use state::SharedMap;
 use std::alloc::Global;
 use std::marker::Model;
+use upmap_cleanup::{Remnant, remnant_of};
 
 /// One who follows the row of sealed epochs without the lock: it waits for no one, and has a map of its own, up to
 /// whose epoch it has applied the incrementals one by one. It may move to another thread, and be dropped.
@@ -82,7 +81,7 @@ impl Follower {
     ghost use Rattle.epochlog.specs.Epochs.{Begins, OneBegins, longer};
     ghost use Rattle.pgtable.specs.Index.{up_at};
     ghost use Rattle.mapjson.specs.Written.{written};
-    ghost use Rattle.cleanup.specs.Kept.{remnant_at};
+    ghost use Rattle.upmap_cleanup.specs.Kept.{remnant_at};
     ghost use Rattle.monitor.specs.Followers.{Follows, GoesOnFrom, Advances, IsCaughtUp, RunsForOne};
 
     /// A follower of this monitor, at the first map.

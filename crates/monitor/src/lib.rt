@@ -27,10 +27,9 @@ mod shared;
 mod turns;
 
 pub use balancer::Request;
-pub use cleanup::Remnant;
 pub use ended::Ended;
+pub use epochlog::{Keeps, Nothing};
 pub use follower::Follower;
-pub use keeping::{Keeps, Nothing};
 pub use look::Look;
 pub use member::Member;
 pub use monitor::Monitor;
@@ -39,3 +38,5 @@ pub use open::Limits;
 pub use question::{Answer, Question};
 pub use shared::Shared;
 pub use state::{Balance, Commit, State};
+pub use ticketlock::limits::{MAX_DRAWS, MAX_SEATS};
+pub use upmap_cleanup::Remnant;

@@ -11,11 +11,11 @@ ghost use Rattle.monitor.specs.Making.{commits_made, plans_made};
 ghost use Rattle.monitor.specs.Members.{Counts, Matches};
 
 use balancer::Request;
-use epochlog::{Pass, Row};
-use keeping::Keeps;
+use epochlog::{Keeps, Pass, Row};
 use maptypes::Change;
 use refusal::Refusal;
-use state::{Balance, Commit, State};
+use state::{Balance, Commit, Proposal, State};
+use std::thread::Threads;
 use ticketlock::Fact;
 use tip::{Kept, Mine, Seen, Tip};
 
@@ -98,18 +98,18 @@ impl<K: Keeps + Drop> Locked<K> {
 }
 
 /// Commits a change to a state, by one who has seen all that it has.
-pub(crate) fn commit<K: Keeps + Drop>(
+pub(crate) fn commit<R: Threads + Sync, K: Keeps + Drop>(
+    rt: &R,
     state: &mut State<K>,
     row: &Row,
     pass: &mut Pass,
-    base: u64,
-    change: Change,
+    proposal: Proposal,
 ) -> Result<Commit, Refusal>
     requires row { state.old.pass.row ≡ row.now }
     requires pass { pass.old ≡ state.old.pass }
     ensures commits { AnswersCommit state.old.first (length row.now.cells)
-        pass.old.history pass.new.history base change result }
-    ensures own { AddsChange pass.old.history pass.new.history change result }
+        pass.old.history pass.new.history proposal.base proposal.change result }
+    ensures own { AddsChange pass.old.history pass.new.history proposal.change result }
     ensures longer { length pass.new.history ≡ length pass.old.history + commits_made result }
     ensures unspent { IfErr result (λ e. e ≢ SeatSpent) }
     ensures stored { IfErr result (λ e. e ≡ NotStored → K.may_fail) }
@@ -118,13 +118,14 @@ pub(crate) fn commit<K: Keeps + Drop>(
     ensures row { state.new.pass.row ≡ row.now }
 {
     let _ = state.map();
-    let answer = state.commit(row, pass, base, change);
+    let answer = state.commit(rt, row, pass, proposal);
     let _ = state.map();
     answer
 }
 
 /// Commits a change to the map of a state, by one who has seen all that it has.
-pub(crate) fn apply<K: Keeps + Drop>(
+pub(crate) fn apply<R: Threads + Sync, K: Keeps + Drop>(
+    rt: &R,
     state: &mut State<K>,
     row: &Row,
     pass: &mut Pass,
@@ -143,12 +144,13 @@ pub(crate) fn apply<K: Keeps + Drop>(
     ensures row { state.new.pass.row ≡ row.now }
 {
     let base = state.map().epoch();
-    commit(state, row, pass, base, change)
+    commit(rt, state, row, pass, Proposal { base, change })
 }
 
 /// Plans and commits the moves that are asked for, which balance a pool of a state, by one who has seen all that it
 /// has.
-pub(crate) fn balance<K: Keeps + Drop>(
+pub(crate) fn balance<R: Threads + Sync, K: Keeps + Drop>(
+    rt: &R,
     state: &mut State<K>,
     row: &Row,
     pass: &mut Pass,
@@ -168,7 +170,7 @@ pub(crate) fn balance<K: Keeps + Drop>(
     ensures row { state.new.pass.row ≡ row.now }
 {
     let _ = state.map();
-    let answer = state.balance(row, pass, request);
+    let answer = state.balance(rt, row, pass, request);
     let _ = state.map();
     answer
 }

@@ -4,8 +4,7 @@ ghost use Rattle.std.specs.Prelude.{◌≡◌};
 
 use crate::ended::Ended;
 use crate::locked::Locked;
-use epochlog::{Pass, Row};
-use keeping::{Keeps, Nothing};
+use epochlog::{Keeps, Nothing, Pass, Row};
 use mapparts::Profile;
 use refusal::Memory;
 use state::{SharedMap, State};

@@ -4,12 +4,12 @@ ghost use Rattle.std.specs.Prelude.{◌≡◌, ◌≢◌, IsUtf8, IfErr};
 ghost use Rattle.refusal.specs.declared.refused.Refusal.TheVariants.{SeatSpent};
 ghost use Rattle.monitor.specs.Questions.{Finds, IsDump};
 
-use cleanup::Remnant;
-use keeping::Keeps;
+use epochlog::Keeps;
 use mapjson::write_map;
 use maptypes::{Pg, UpSet};
 use refusal::Refusal;
 use state::State;
+use upmap_cleanup::Remnant;
 
 /// A question to a monitor. Members share the lock for it.
 #[derive(Clone, Copy, Debug)]

@@ -1,7 +1,7 @@
 //! A hold of the lock that is shared.
 
 use crate::locked::Locked;
-use keeping::{Keeps, Nothing};
+use epochlog::{Keeps, Nothing};
 use ticketlock::ReadGuard;
 
 /// A hold of a monitor's lock that other members may share: nobody commits while it lasts. It must be spent, by

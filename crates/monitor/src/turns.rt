@@ -9,7 +9,7 @@ use crate::locked::{Locked, compare, see};
 use crate::member::Member;
 use crate::monitor::Monitor;
 use crate::shared::Shared;
-use keeping::Keeps;
+use epochlog::Keeps;
 use refusal::Refusal;
 use state::State;
 use std::sync::Wait;

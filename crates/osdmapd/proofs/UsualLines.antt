@@ -27,7 +27,7 @@ use Rattle.cli.specs.declared.choices.LineError.{LineError}
 use Rattle.cli.specs.declared.choices.LineError.TheVariants.{Help, Usage, TooMany, Unpaired, Memory}
 use Rattle.mapparts.specs.declared.profile.Profile.{Profile}
 use Rattle.mapparts.specs.declared.profile.Profile.TheVariants.{Plain, Stock}
-use Rattle.serving.specs.Serving.{max_scripts}
+use Rattle.server.specs.Serving.{max_scripts}
 use Rattle.cli.specs.Arguments.{found_by, faults_by, stock_rule, stock_word, script_paths_in, IsJournalIn}
 use Rattle.osdmapd.specs.CommandLine.{app, is_plain, ArePlain, AreUsual, GivesOptions, ReadsLine, ReadsUsual}
 use Rattle.osdmapd.proofs.PlainWords.{at, at_option, no_option, plain_argument, plain_given, plain_more, plain_option, plain_option_behind, plain_option_more, plain_value, plain_walked}

@@ -8,7 +8,7 @@ use Rattle.clap.specs.Simple.{App, new_app, new_rule, on_top, with_rule}
 use Rattle.epochlog.specs.Epochs.{max_capacity}
 use Rattle.mapparts.specs.declared.profile.Profile.{Profile}
 use Rattle.mapparts.specs.declared.profile.Profile.TheVariants.{Plain, Stock}
-use Rattle.serving.specs.Serving.{max_scripts}
+use Rattle.server.specs.Serving.{max_scripts}
 use Rattle.cli.specs.declared.choices.LineError.{LineError}
 use Rattle.cli.specs.declared.choices.LineError.TheVariants.{Memory}
 use Rattle.cli.specs.Arguments.{journal_rule, stock_rule, to_rule, AreFoundSessions, ReadsBy}

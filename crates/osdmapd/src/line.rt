@@ -5,7 +5,7 @@ ghost use Rattle.clap.specs.Matches.{found_of};
 ghost use Rattle.clap.specs.Simple.{app_of};
 ghost use Rattle.clap.specs.Walk.{rows_of};
 ghost use Rattle.epochlog.specs.Epochs.{max_capacity};
-ghost use Rattle.serving.specs.Serving.{max_scripts};
+ghost use Rattle.server.specs.Serving.{max_scripts};
 ghost use Rattle.cli.specs.Arguments.{ArePaired, Chooses, IsReadBy};
 ghost use Rattle.osdmapd.specs.CommandLine.{map_rule, script_rule, program, program_with_options, app};
 ghost use Rattle.osdmapd.specs.CommandLine.{AreFound, ReadsLine, ReadsUsual};

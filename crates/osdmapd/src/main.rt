@@ -7,7 +7,7 @@
 ghost use Rattle.std.specs.Prelude.{◌≡◌, ◌≤◌, IfErr, vec_len};
 ghost use Rattle.std.specs.Process.{exit_status};
 ghost use Rattle.epochlog.specs.Epochs.{max_capacity};
-ghost use Rattle.serving.specs.Serving.{max_scripts};
+ghost use Rattle.server.specs.Serving.{max_scripts};
 ghost use Rattle.cli.specs.Arguments.{ArePaired};
 ghost use Rattle.cli.specs.Endings.{status_of};
 
@@ -16,7 +16,7 @@ mod line;
 
 use choices::Options;
 use cli::{Ending, check_streams, end_run, parts_of, put_served, read, tell_line};
-use serving::{System, Terms, serve};
+use server::{System, Terms, serve};
 use session::Buffer;
 use std::process::ExitCode;
 use std::rt::Files;

@@ -27,17 +27,13 @@ many_rule = record (new_rule (codes "journal")) {
   parser = Some (Signed (pos 1) (pos max_capacity));
 }
 
--- `--begin MAP`
-abbrev pub begin_rule : Rule
-begin_rule = record (new_rule (codes "begin")) { long = Some (codes "begin"); action = Some Set; value_names = 1 }
+-- an option without a value
+abbrev pub flag_rule : Text → Rule
+flag_rule name = record (new_rule name) { long = Some name; action = Some SetTrue }
 
--- `--open-or-begin MAP`
-abbrev pub open_or_begin_rule : Rule
-open_or_begin_rule = record (new_rule (codes "open-or-begin")) {
-  long = Some (codes "open-or-begin");
-  action = Some Set;
-  value_names = 1;
-}
+-- one whose value is a word
+abbrev pub word_rule : Text → Rule
+word_rule name = record (new_rule name) { long = Some name; action = Some Set; value_names = 1 }
 
 -- `--keep N`
 abbrev pub keep_rule : Rule
@@ -47,26 +43,6 @@ keep_rule = record (new_rule (codes "keep")) {
   value_names = 1;
   parser = Some (Signed (pos 0) (pos most_kept));
 }
-
--- `--wary`
-abbrev pub wary_rule : Rule
-wary_rule = record (new_rule (codes "wary")) { long = Some (codes "wary"); action = Some SetTrue }
-
--- `--end-when-full`
-abbrev pub end_rule : Rule
-end_rule = record (new_rule (codes "end-when-full")) { long = Some (codes "end-when-full"); action = Some SetTrue }
-
--- `--life`
-abbrev pub life_rule : Rule
-life_rule = record (new_rule (codes "life")) { long = Some (codes "life"); action = Some SetTrue }
-
--- `--restore`
-abbrev pub restore_rule : Rule
-restore_rule = record (new_rule (codes "restore")) { long = Some (codes "restore"); action = Some SetTrue }
-
--- `--backup FILE`
-abbrev pub backup_rule : Rule
-backup_rule = record (new_rule (codes "backup")) { long = Some (codes "backup"); action = Some Set; value_names = 1 }
 
 -- STORE, one word that must be there
 abbrev pub store_rule : Rule
@@ -87,33 +63,33 @@ store_program = on_top (λ s. record s { has_version = true }) (new_app (codes "
 abbrev pub store_program_of_sessions : App
 store_program_of_sessions = with_rule (with_rule (with_rule store_program many_rule) stock_rule) to_rule
 
--- with what makes a store, too
+-- with what makes a store, too: `--begin MAP` and `--open-or-begin MAP`
 abbrev pub store_program_with_maps : App
-store_program_with_maps = with_rule (with_rule store_program_of_sessions begin_rule) open_or_begin_rule
+store_program_with_maps =
+    with_rule (with_rule store_program_of_sessions (word_rule (codes "begin"))) (word_rule (codes "open-or-begin"))
 
--- with how changes are kept, too
+-- with how changes are kept, too: `--keep N`, `--wary` and `--by WORD`
 abbrev pub store_program_with_changes : App
 store_program_with_changes =
-    with_rule (with_rule (with_rule (with_rule store_program_with_maps keep_rule) wary_rule) end_rule) life_rule
+    with_rule (with_rule (with_rule store_program_with_maps keep_rule) (flag_rule (codes "wary")))
+    (word_rule (codes "by"))
 
--- with all its options
+-- with how a run begins and ends, too: `--end-when-full` and `--life`
+abbrev pub store_program_with_runs : App
+store_program_with_runs =
+    with_rule (with_rule store_program_with_changes (flag_rule (codes "end-when-full"))) (flag_rule (codes "life"))
+
+-- with all its options: `--backup FILE` and `--restore` too
 abbrev pub store_program_with_options : App
-store_program_with_options = with_rule (with_rule store_program_with_changes backup_rule) restore_rule
+store_program_with_options =
+    with_rule (with_rule store_program_with_runs (word_rule (codes "backup"))) (flag_rule (codes "restore"))
 
 -- `osdmapstore [--journal N] [--stock] [--to ANSWERS].. [--begin MAP] [--open-or-begin MAP] [--keep N] [--wary]
--- [--end-when-full] [--life] [--backup FILE] [--restore] STORE [SCRIPT..]`
+-- [--by WORD] [--end-when-full] [--life] [--backup FILE] [--restore] STORE [SCRIPT..]`
 abbrev pub store_app : App
 store_app = with_rule (with_rule store_program_with_options store_rule) any_scripts_rule
 
 -- ---- the options
-
--- the path that was found of the map to begin with
-abbrev pub begin_path_in : List Row → Option Text
-begin_path_in rows = first_of (codes "begin") rows
-
--- the same of the map to begin with where there is no store
-abbrev pub open_or_begin_path_in : List Row → Option Text
-open_or_begin_path_in rows = first_of (codes "open-or-begin") rows
 
 -- how many changes an open is told to leave; or no number of 32 bits was found
 abbrev pub IsKeepIn : List Row → Option ℕ → Type 0
@@ -129,26 +105,19 @@ given_word true = codes "true"
 abbrev pub IsGivenIn : Text → List Row → Bool → Type 0
 IsGivenIn id rows given = (asked : Bool) → one_of id rows ≡ Some (given_word asked) → given ≡ asked
 
--- the path that was found of the copy
-abbrev pub backup_path_in : List Row → Option Text
-backup_path_in rows = first_of (codes "backup") rows
-
--- the store's path that was found
-abbrev pub store_path_in : List Row → Option Text
-store_path_in rows = first_of (codes "STORE") rows
-
--- the options are what was found for the maps to begin with, the changes that are kept, the syncs of a change, the end
--- at a full journal, the number of the life, the copy, the store and the sessions
+-- the options are what was found for the maps to begin with, the changes that are kept, the syncs of a change, the word
+-- beside it, the end at a full journal, the number of the life, the copy, the store and the sessions
 pub record AreStoreFound (rows : List Row) (o : Options) : Type 0 where
-  pub begin_found : begin_path_in rows ≡ option_map string_bytes o.begin
-  pub open_or_begin_found : open_or_begin_path_in rows ≡ option_map string_bytes o.open_or_begin
+  pub begin_found : first_of (codes "begin") rows ≡ option_map string_bytes o.begin
+  pub open_or_begin_found : first_of (codes "open-or-begin") rows ≡ option_map string_bytes o.open_or_begin
   pub keep_found : IsKeepIn rows o.keep
   pub wary_found : IsGivenIn (codes "wary") rows o.wary
+  pub by_found : first_of (codes "by") rows ≡ option_map string_bytes o.by
   pub end_found : IsGivenIn (codes "end-when-full") rows o.end_when_full
   pub life_found : IsGivenIn (codes "life") rows o.life
-  pub backup_found : backup_path_in rows ≡ option_map string_bytes o.backup
+  pub backup_found : first_of (codes "backup") rows ≡ option_map string_bytes o.backup
   pub restore_found : IsGivenIn (codes "restore") rows o.restore
-  pub store_found : store_path_in rows ≡ Some (string_bytes o.store)
+  pub store_found : first_of (codes "STORE") rows ≡ Some (string_bytes o.store)
   pub sessions_found : AreFoundSessions rows o.sessions
 
 -- the options of words against which the parser has nothing; or why there are none

@@ -12,6 +12,8 @@ pub struct Options {
     pub keep: Option<u32>,
     /// Whether each change is synced twice.
     pub wary: bool,
+    /// The word that stands beside each change of the run, where there is one.
+    pub by: Option<String>,
     /// Whether the run ends once its journal is full.
     pub end_when_full: bool,
     /// Whether the number of the store's life is told behind the epoch.

@@ -8,6 +8,8 @@ use thiserror::Error;
 /// Why a run ends before all is done. Its text is what the run tells on standard error.
 #[derive(Debug, Drop, Error)]
 pub enum Ending<'a> {
+    /// The word that is to sign changes is none.
+    Word,
     /// The store is not begun or opened, or its log is not copied into its file at the end.
     Store(OpenError),
     /// The store has failed, which was told then; and what else ended the run.
@@ -37,6 +39,7 @@ impl<'a> Ending<'a> {
         ensures { result ≡ store_status_of self.now }
     {
         match self {
+            Ending::Word => 1,
             Ending::Store(_) => 5,
             Ending::Failed(_) => 6,
             Ending::Full => 8,
@@ -64,6 +67,9 @@ impl<'a> fmt::Display for Ending<'a> {
 
     fn fmt<W: fmt::Write>(&self, f: &mut fmt::Formatter<W>) -> fmt::Result {
         match self {
+            Ending::Word => f.write_str(
+                "the word of --by is not 1 to 64 characters of visible ASCII\n",
+            ),
             Ending::Store(error) => writeln!(f, "store: {error}"),
             Ending::Failed(Some(ending)) | Ending::Run(ending) => write!(f, "{ending}"),
             Ending::Failed(None) | Ending::Full => Ok(()),

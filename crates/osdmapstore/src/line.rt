@@ -6,12 +6,13 @@ ghost use Rattle.clap.specs.Matches.{found_of};
 ghost use Rattle.clap.specs.Simple.{app_of};
 ghost use Rattle.clap.specs.Walk.{first_of, rows_of};
 ghost use Rattle.epochlog.specs.Epochs.{max_capacity};
-ghost use Rattle.serving.specs.Serving.{max_scripts};
+ghost use Rattle.server.specs.Serving.{max_scripts};
 ghost use Rattle.cli.specs.Arguments.{ArePaired, Chooses, IsNumberOf, IsReadBy};
-ghost use Rattle.osdmapstore.specs.CommandLine.{many_rule, begin_rule, open_or_begin_rule, keep_rule, wary_rule, end_rule, life_rule, backup_rule, restore_rule};
-ghost use Rattle.osdmapstore.specs.CommandLine.{store_rule, any_scripts_rule, store_program, store_app};
+ghost use Rattle.osdmapstore.specs.CommandLine.{flag_rule, word_rule, many_rule, keep_rule, store_rule};
+ghost use Rattle.osdmapstore.specs.CommandLine.{any_scripts_rule, store_program, store_app};
 ghost use Rattle.osdmapstore.specs.CommandLine.{store_program_of_sessions, store_program_with_maps};
-ghost use Rattle.osdmapstore.specs.CommandLine.{store_program_with_changes, store_program_with_options};
+ghost use Rattle.osdmapstore.specs.CommandLine.{store_program_with_changes, store_program_with_runs};
+ghost use Rattle.osdmapstore.specs.CommandLine.{store_program_with_options};
 ghost use Rattle.osdmapstore.specs.CommandLine.{AreStoreFound, IsGivenIn, ReadsStoreLine};
 
 use crate::choices::Options;
@@ -34,6 +35,28 @@ it is answered. Statuses: 0 done, 1 command line, 2 map refused, 3 file or outpu
 not stored, 7 a change was lost, 8 the journal is full (--end-when-full). The formats of stores, maps, changes, \
 scripts and answers are in docs/FORMATS.md.";
 
+const BEGIN: &str = "Makes the store first, with the map of this file, as JSON";
+
+const OPEN_OR_BEGIN: &str =
+    "Makes the store first, with the map of this file, where there is none yet";
+
+const WARY: &str =
+    "Syncs each change twice, for a disk that may tear what it writes in a crash of the machine";
+
+const BY: &str =
+    "Puts this word beside each change of the run, which `rekhuso history` tells: at most 64 characters of visible ASCII";
+
+const END_WHEN_FULL: &str =
+    "Ends the run, with status 8, once it has taken as many changes as --journal says";
+
+const LIFE: &str = "Tells the number of the store's life behind its epoch, if it has one";
+
+const BACKUP: &str =
+    "Only makes a copy of the store in this new file, also while a program has it open, and tells its epoch";
+
+const RESTORE: &str =
+    "With --backup: the copy is to go on by itself, as a store with another number";
+
 /// `--journal N`, as many as may be where it is not given: a store is to run on.
 fn journal_option<'a>(alloc: Global) -> Arg<'a>
     ensures { IsReadBy many_rule result }
@@ -47,25 +70,24 @@ fn journal_option<'a>(alloc: Global) -> Arg<'a>
         .default_value("65536")
 }
 
-/// `--begin MAP`.
-fn begin_option<'a>(alloc: Global) -> Arg<'a>
-    ensures { IsReadBy begin_rule result }
+/// An option without a value.
+fn flag<'a>(alloc: Global, name: &'a str, help: &'a str) -> Arg<'a>
+    ensures { IsReadBy (flag_rule name.entry.now) result }
 {
-    Arg::new(alloc, "begin")
-        .long("begin")
-        .value_name("MAP")
-        .help("Makes the store first, with the map of this file, as JSON")
-        .action(ArgAction::Set)
+    Arg::new(alloc, name)
+        .long(name)
+        .help(help)
+        .action(ArgAction::SetTrue)
 }
 
-/// `--open-or-begin MAP`.
-fn open_or_begin_option<'a>(alloc: Global) -> Arg<'a>
-    ensures { IsReadBy open_or_begin_rule result }
+/// An option whose value is a word.
+fn word_option<'a>(alloc: Global, name: &'a str, value: &'a str, help: &'a str) -> Arg<'a>
+    ensures { IsReadBy (word_rule name.entry.now) result }
 {
-    Arg::new(alloc, "open-or-begin")
-        .long("open-or-begin")
-        .value_name("MAP")
-        .help("Makes the store first, with the map of this file, where there is none yet")
+    Arg::new(alloc, name)
+        .long(name)
+        .value_name(value)
+        .help(help)
         .action(ArgAction::Set)
 }
 
@@ -82,61 +104,6 @@ fn keep_option<'a>(alloc: Global) -> Arg<'a>
         )
         .action(ArgAction::Set)
         .value_parser(value_parser!(u32).range(0..=MOST_KEPT))
-}
-
-/// `--wary`.
-fn wary_option<'a>(alloc: Global) -> Arg<'a>
-    ensures { IsReadBy wary_rule result }
-{
-    Arg::new(alloc, "wary")
-        .long("wary")
-        .help(
-            "Syncs each change twice, for a disk that may tear what it writes in a crash of the machine",
-        )
-        .action(ArgAction::SetTrue)
-}
-
-/// `--end-when-full`.
-fn end_option<'a>(alloc: Global) -> Arg<'a>
-    ensures { IsReadBy end_rule result }
-{
-    Arg::new(alloc, "end-when-full")
-        .long("end-when-full")
-        .help("Ends the run, with status 8, once it has taken as many changes as --journal says")
-        .action(ArgAction::SetTrue)
-}
-
-/// `--life`.
-fn life_option<'a>(alloc: Global) -> Arg<'a>
-    ensures { IsReadBy life_rule result }
-{
-    Arg::new(alloc, "life")
-        .long("life")
-        .help("Tells the number of the store's life behind its epoch, if it has one")
-        .action(ArgAction::SetTrue)
-}
-
-/// `--restore`.
-fn restore_option<'a>(alloc: Global) -> Arg<'a>
-    ensures { IsReadBy restore_rule result }
-{
-    Arg::new(alloc, "restore")
-        .long("restore")
-        .help("With --backup: the copy is to go on by itself, as a store with another number")
-        .action(ArgAction::SetTrue)
-}
-
-/// `--backup FILE`.
-fn backup_option<'a>(alloc: Global) -> Arg<'a>
-    ensures { IsReadBy backup_rule result }
-{
-    Arg::new(alloc, "backup")
-        .long("backup")
-        .value_name("FILE")
-        .help(
-            "Only makes a copy of the store in this new file, also while a program has it open, and tells its epoch",
-        )
-        .action(ArgAction::Set)
 }
 
 /// STORE.
@@ -186,8 +153,8 @@ fn program_with_maps<'a>(alloc: Global) -> Result<Command<'a>, AllocError>
     ensures { IfOk result (λ c. app_of c ≡ store_program_with_maps) }
 {
     program_of_sessions(alloc)?
-        .arg(begin_option(alloc))?
-        .arg(open_or_begin_option(alloc))
+        .arg(word_option(alloc, "begin", "MAP", BEGIN))?
+        .arg(word_option(alloc, "open-or-begin", "MAP", OPEN_OR_BEGIN))
 }
 
 /// The program with how changes are kept, too.
@@ -196,18 +163,26 @@ fn program_with_changes<'a>(alloc: Global) -> Result<Command<'a>, AllocError>
 {
     program_with_maps(alloc)?
         .arg(keep_option(alloc))?
-        .arg(wary_option(alloc))?
-        .arg(end_option(alloc))?
-        .arg(life_option(alloc))
+        .arg(flag(alloc, "wary", WARY))?
+        .arg(word_option(alloc, "by", "WORD", BY))
+}
+
+/// The program with how a run begins and ends, too.
+fn program_with_runs<'a>(alloc: Global) -> Result<Command<'a>, AllocError>
+    ensures { IfOk result (λ c. app_of c ≡ store_program_with_runs) }
+{
+    program_with_changes(alloc)?
+        .arg(flag(alloc, "end-when-full", END_WHEN_FULL))?
+        .arg(flag(alloc, "life", LIFE))
 }
 
 /// The program with all its options.
 fn program_with_options<'a>(alloc: Global) -> Result<Command<'a>, AllocError>
     ensures { IfOk result (λ c. app_of c ≡ store_program_with_options) }
 {
-    program_with_changes(alloc)?
-        .arg(backup_option(alloc))?
-        .arg(restore_option(alloc))
+    program_with_runs(alloc)?
+        .arg(word_option(alloc, "backup", "FILE", BACKUP))?
+        .arg(flag(alloc, "restore", RESTORE))
 }
 
 /// The command line that the program takes.
@@ -219,16 +194,16 @@ fn command<'a>(alloc: Global) -> Result<Command<'a>, AllocError>
         .arg(script_words(alloc))
 }
 
-/// A copy of the path that was found for an option, where there is one.
-fn copied_path(
+/// A copy of the word that was found for an option, where there is one.
+fn copied_word(
     alloc: Global,
     matches: &ArgMatches<'_>,
     id: &str,
 ) -> Result<Option<String>, AllocError>
-    ensures { IfOk result (λ path. option_map string_bytes path ≡ first_of id.now (rows_of (found_of matches.now))) }
+    ensures { IfOk result (λ word. option_map string_bytes word ≡ first_of id.now (rows_of (found_of matches.now))) }
 {
     match path_in(matches, id) {
-        Some(path) => Ok(Some(String::from_str(alloc, path)?)),
+        Some(word) => Ok(Some(String::from_str(alloc, word)?)),
         None => Ok(None),
     }
 }
@@ -242,32 +217,11 @@ fn keep_in(matches: &ArgMatches<'_>) -> Option<u32>
     matches.get_one("keep")
 }
 
-/// Whether each change is to be synced twice.
-fn wary_in(matches: &ArgMatches<'_>) -> bool
-    ensures { IsGivenIn (codes "wary") (rows_of (found_of matches.now)) result }
+/// Whether an option without a value was given.
+fn is_given(matches: &ArgMatches<'_>, id: &str) -> bool
+    ensures { IsGivenIn id.now (rows_of (found_of matches.now)) result }
 {
-    matches.get_flag("wary")
-}
-
-/// Whether the run is to end once its journal is full.
-fn end_in(matches: &ArgMatches<'_>) -> bool
-    ensures { IsGivenIn (codes "end-when-full") (rows_of (found_of matches.now)) result }
-{
-    matches.get_flag("end-when-full")
-}
-
-/// Whether the number of the store's life is to be told.
-fn life_in(matches: &ArgMatches<'_>) -> bool
-    ensures { IsGivenIn (codes "life") (rows_of (found_of matches.now)) result }
-{
-    matches.get_flag("life")
-}
-
-/// Whether the copy is to go on by itself.
-fn restore_in(matches: &ArgMatches<'_>) -> bool
-    ensures { IsGivenIn (codes "restore") (rows_of (found_of matches.now)) result }
-{
-    matches.get_flag("restore")
+    matches.get_flag(id)
 }
 
 /// The options of words that the parser took. A value that it had to find and did not is told as out of memory.
@@ -281,26 +235,28 @@ fn options_in(alloc: Global, matches: &ArgMatches<'_>) -> Result<Options, LineEr
     let store = path_in(matches, "STORE").ok_or(LineError::Memory)?;
     let sessions = session_options(alloc, matches)?;
     Ok(Options {
-        begin: copied_path(alloc, matches, "begin")?,
-        open_or_begin: copied_path(alloc, matches, "open-or-begin")?,
+        begin: copied_word(alloc, matches, "begin")?,
+        open_or_begin: copied_word(alloc, matches, "open-or-begin")?,
         keep: keep_in(matches),
-        wary: wary_in(matches),
-        end_when_full: end_in(matches),
-        life: life_in(matches),
-        backup: copied_path(alloc, matches, "backup")?,
-        restore: restore_in(matches),
+        wary: is_given(matches, "wary"),
+        by: copied_word(alloc, matches, "by")?,
+        end_when_full: is_given(matches, "end-when-full"),
+        life: is_given(matches, "life"),
+        backup: copied_word(alloc, matches, "backup")?,
+        restore: is_given(matches, "restore"),
         store: String::from_str(alloc, store)?,
         sessions,
     })
 }
 
 /// What a command line asks for, the program's name first: `[--journal N] [--stock] [--to ANSWERS].. [--begin MAP]
-/// [--open-or-begin MAP] [--keep N] [--wary] [--end-when-full] [--life] [--backup FILE] [--restore] STORE [SCRIPT..]`,
-/// the journal's N from 1 to 65,536, and 65,536 where it is not given, the other from 0 to 1,000,000, at most 64 scripts,
-/// and as many files of answers or none. The options are those that the parser finds in the words, exactly where it has nothing against
-/// them and the numbers are so; `Help` where help was asked for, `Usage` for what else the parser has against the
-/// words, `TooMany` where there are more scripts, `Unpaired` where there are files of answers but another number of
-/// them, else `Memory`.
+/// [--open-or-begin MAP] [--keep N] [--wary] [--by WORD] [--end-when-full] [--life] [--backup FILE] [--restore] STORE
+/// [SCRIPT..]`,
+/// the journal's N from 1 to 65,536, and 65,536 where it is not given, the other from 0 to 1,000,000, at most 64
+/// scripts, and as many files of answers or none. The options are those that the parser finds in the words, exactly
+/// where it has nothing against them and the numbers are so; `Help` where help was asked for, `Usage` for what else
+/// the parser has against the words, `TooMany` where there are more scripts, `Unpaired` where there are files of
+/// answers but another number of them, else `Memory`.
 pub fn options(alloc: Global, words: &[String]) -> Result<Options, LineError>
     ensures least { IfOk result (λ o. 1 ≤ o.sessions.journal) }
     ensures most { IfOk result (λ o. o.sessions.journal ≤ max_capacity) }

@@ -1,9 +1,10 @@
 //! Answers scripts of commands over the map of a cluster that a file keeps, so that no change that was answered is lost
 //! in a crash: `osdmapstore [--journal N] [--stock] [--to ANSWERS].. [--begin MAP] [--open-or-begin MAP] [--keep N]
-//! [--wary] [--end-when-full] [--life] [--backup FILE] [--restore] STORE [SCRIPT..]`, where `-` for a script is standard
-//! input, and for a file of answers standard output.
+//! [--wary] [--by WORD] [--end-when-full] [--life] [--backup FILE] [--restore] STORE [SCRIPT..]`, where `-` for a script
+//! is standard input, and for a file of answers standard output.
 //!
 //! - `line`, `choices`: what a command line asks for
+//! - `word`: which words may sign a change
 //! - `ending`: how a run ends
 #![tactic(auto)]
 
@@ -15,14 +16,15 @@ ghost use Rattle.mapstore.specs.Openings.{IsFoundIn};
 ghost use Rattle.mapstore.specs.Stores.{HoldsJournal};
 ghost use Rattle.sqlite.specs.Files.{over_files};
 ghost use Rattle.sqlite.specs.WalFiles.{image_at};
-ghost use Rattle.serving.specs.Serving.{max_scripts};
+ghost use Rattle.server.specs.Serving.{max_scripts};
 ghost use Rattle.cli.specs.Arguments.{ArePaired};
 ghost use Rattle.cli.specs.Endings.{status_of};
-ghost use Rattle.osdmapstore.specs.Endings.{store_run_status, store_status_of};
+ghost use Rattle.osdmapstore.specs.Endings.{store_run_status, store_status_of, ChecksOptions};
 
 mod choices;
 mod ending;
 mod line;
+mod word;
 
 use choices::Options;
 use cli::{check_streams, parts_of, put_served, read, tell_line};
@@ -32,7 +34,7 @@ use mapjson::read_map;
 use mapparts::Profile;
 use mapstore::{FileMaps, KEPT, Keep, MapStore, OpenError, Witness};
 use osdmap::OsdMap;
-use serving::{Fault, First, Part, System, Terms, serve_map};
+use server::{Fault, First, Part, System, Terms, serve_map};
 use session::Buffer;
 use sqlite::{Alter, Start, Unknown, Wary};
 use std::alloc::AllocError;
@@ -41,6 +43,7 @@ use std::random::RandomSource;
 use std::rt::Files;
 use std::sync::Wait;
 use std::thread::Threads;
+use word::is_word;
 
 /// The greatest number of a new store's life.
 const LAST_LIFE: i64 = (1 << 53) - 1;
@@ -305,11 +308,14 @@ fn end_of<'a>(witness: &Witness, done: Result<(), cli::Ending<'a>>) -> Result<()
     }
 }
 
-/// Two witnesses who note together.
-fn two_witnesses(host: &HostRuntime, journal: u32) -> Result<(Witness, Witness), AllocError> {
-    let witness = Witness::new(host, journal)?;
+/// Two witnesses who note together, of whom the second signs changes with the word that is given.
+fn two_witnesses(host: &HostRuntime, options: &Options) -> Result<(Witness, Witness), AllocError> {
+    let witness = Witness::new(host, options.sessions.journal)?;
     let other = witness.again()?;
-    Ok((witness, other))
+    match &options.by {
+        Some(word) => Ok((witness, other.signing(word.as_str())?)),
+        None => Ok((witness, other)),
+    }
 }
 
 /// What the sessions are played from; they end once the journal is full, where the command line says so.
@@ -364,7 +370,7 @@ fn work<
     if let Some(to) = &options.backup {
         return back_up(system, options, to.as_str(), start);
     }
-    let Ok((witness, other)) = two_witnesses(system.host, options.sessions.journal) else {
+    let Ok((witness, other)) = two_witnesses(system.host, options) else {
         return Err(Ending::Run(cli::Ending::Memory));
     };
     let parts = parts_by(system, options, &witness)?;
@@ -393,6 +399,17 @@ fn work_on<'a, R: Files + AllocGlobal + Print + Eprint + Threads + Wait + Sync>(
     }
 }
 
+/// Tests the options that the parser takes: the streams of the sessions, and the word that signs changes.
+fn check_options<'a>(options: &'a Options) -> Result<(), Ending<'a>>
+    ensures { ChecksOptions options.entry.now result }
+{
+    check_streams(&options.sessions)?;
+    match &options.by {
+        Some(word) if !is_word(word.as_str()) => Err(Ending::Word),
+        _ => Ok(()),
+    }
+}
+
 fn main(rt: HostRuntime) -> ExitCode {
     let alloc = rt.alloc();
     let words = match std::env::args(&rt) {
@@ -412,8 +429,8 @@ fn main(rt: HostRuntime) -> ExitCode {
         }
     };
     let system = System { rt: &rt, host: &rt };
-    match check_streams(&options.sessions) {
+    match check_options(&options) {
         Ok(()) => end_run(&rt, work_on(&system, &options)),
-        Err(ending) => end_run(&rt, Err(Ending::Run(ending))),
+        Err(ending) => end_run(&rt, Err(ending)),
     }
 }

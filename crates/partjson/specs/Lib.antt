@@ -1,10 +1,8 @@
+pub mod Fields
 pub mod StatedMaps
 pub mod StatedChanges
-pub mod UnbasedChanges
 pub mod StatedLoads
 pub mod Profiles
 pub mod Steps
-pub mod Members
 pub mod Places
 pub mod Laws
-pub mod UnbasedLaws

@@ -9,8 +9,7 @@ use Rattle.mapparts.specs.Profiles.{has_kinds, has_words}
 use Rattle.partjson.specs.declared.change.RawChange.{RawChange}
 use Rattle.jsonstream.specs.Json.{◌>>=◌}
 use Rattle.partjson.specs.StatedMaps.{stated_map}
-use Rattle.partjson.specs.StatedChanges.{stated_change}
-use Rattle.partjson.specs.UnbasedChanges.{unbased_change}
+use Rattle.partjson.specs.StatedChanges.{stated_change, unbased_change}
 
 -- whether a profile has the kinds of all buckets of a CRUSH map, and the steps of its rules, where there is one
 abbrev pub brings_kinds : Profile → Option CrushParts → Bool

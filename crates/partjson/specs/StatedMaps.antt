@@ -1,5 +1,5 @@
 -- The parts of a map that a JSON text (RFC 8259) states. The form is this program's own.
-use Rattle.std.specs.Prelude.{ℕ, pos, Bool, true, false, not, ◌&&◌, List, [], ◌∷◌, codes, Option, Some, None, option_map, if◌then◌else◌}
+use Rattle.std.specs.Prelude.{ℕ, pos, Bool, true, false, not, ◌&&◌, List, codes, Option, Some, None, option_map, if◌then◌else◌}
 use Rattle.std.specs.List.{list_any}
 use Rattle.std.specs.Ordering.{int_eq}
 use Rattle.std.specs.Str.{bytes_eq}
@@ -23,7 +23,8 @@ use Rattle.mapparts.specs.declared.parts.ExceptionPart.{ExceptionPart}
 use Rattle.mapparts.specs.declared.parts.PairPart.{PairPart}
 use Rattle.mapparts.specs.declared.pg_parts.PgParts.{PgParts}
 use Rattle.mapparts.specs.PgText.{parts_in}
-use Rattle.jsonstream.specs.Json.{◌>>=◌, whole_number, stated_list, has_count, place, both_of, has_only, field, optional_list}
+use Rattle.jsonstream.specs.Json.{◌>>=◌, whole_number, stated_list, has_count, place, both_of}
+use Rattle.partjson.specs.Fields.{must, may_list, no_more, ◌&◌, stated_as}
 
 -- ---- the forest
 
@@ -43,18 +44,19 @@ bucket_kind_of d = as_str d >>= bucket_kind
 unfoldable pub stated_item : Data → Option ItemPart
 stated_item d = option_map (λ item. record { id = item.0; weight = item.1 }) (both_of whole_number whole_number d)
 
--- the keys of a bucket
-abbrev pub bucket_keys : List (List ℕ)
-bucket_keys = codes "id" ∷ codes "items" ∷ codes "kind" ∷ codes "type" ∷ []
-
 -- a bucket: id, items, kind and type
 unfoldable pub stated_bucket : Data → Option BucketPart
-stated_bucket d = if has_only bucket_keys d then (do
-  id ← field whole_number (codes "id") d
-  level ← field whole_number (codes "type") d
-  kind ← field bucket_kind_of (codes "kind") d
-  items ← field (stated_list stated_item) (codes "items") d
-  Some (record { id = id; level = level; kind = kind; items = items })) else None
+stated_bucket d = stated_as (
+    must (codes "id") whole_number
+    & must (codes "items") (stated_list stated_item)
+    & must (codes "kind") bucket_kind_of
+    & must (codes "type") whole_number
+    & no_more) (λ (id, p). let (items, p) = p in let (kind, p) = p in let (level, p) = p in record {
+      id = id;
+      level = level;
+      kind = kind;
+      items = items;
+    }) d
 
 -- ---- rules
 
@@ -128,54 +130,48 @@ stated_step d = do
   word ← place as_str 0 d
   step_by word d
 
--- the keys of a rule
-abbrev pub rule_keys : List (List ℕ)
-rule_keys = codes "id" ∷ codes "kind" ∷ codes "steps" ∷ []
-
 -- a rule: id, kind and steps
 unfoldable pub stated_rule : Data → Option RulePart
-stated_rule d = if has_only rule_keys d then (do
-  id ← field whole_number (codes "id") d
-  kind ← field rule_kind_of (codes "kind") d
-  steps ← field (stated_list stated_step) (codes "steps") d
-  Some (record { id = id; kind = kind; steps = steps })) else None
+stated_rule d = stated_as (
+    must (codes "id") whole_number
+    & must (codes "kind") rule_kind_of
+    & must (codes "steps") (stated_list stated_step)
+    & no_more) (λ (id, p). let (kind, p) = p in let (steps, p) = p in record { id = id; kind = kind; steps = steps }) d
 
 -- ---- pools and OSDs
 
--- the keys of a pool
-abbrev pub pool_keys : List (List ℕ)
-pool_keys = codes "id" ∷ codes "kind" ∷ codes "pg_num" ∷ codes "pgp_num" ∷ codes "rule" ∷ codes "size" ∷ []
-
 -- a pool: id, kind, pg_num, pgp_num, rule and size
 unfoldable pub stated_pool : Data → Option PoolPart
-stated_pool d = if has_only pool_keys d then (do
-  id ← field whole_number (codes "id") d
-  kind ← field rule_kind_of (codes "kind") d
-  pg_num ← field whole_number (codes "pg_num") d
-  pgp_num ← field whole_number (codes "pgp_num") d
-  rule ← field whole_number (codes "rule") d
-  size ← field whole_number (codes "size") d
-  Some (record {
-    id = id;
-    kind = kind;
-    pg_num = pg_num;
-    pgp_num = pgp_num;
-    rule = rule;
-    size = size;
-  })) else None
-
--- the keys of an OSD
-abbrev pub osd_keys : List (List ℕ)
-osd_keys = codes "exists" ∷ codes "id" ∷ codes "up" ∷ codes "weight" ∷ []
+stated_pool d = stated_as (
+    must (codes "id") whole_number
+    & must (codes "kind") rule_kind_of
+    & must (codes "pg_num") whole_number
+    & must (codes "pgp_num") whole_number
+    & must (codes "rule") whole_number
+    & must (codes "size") whole_number
+    & no_more) (λ (id, p). let (kind, p) = p in let (pg_num, p) = p in let (pgp_num, p) = p in
+    let (rule, p) = p in let (size, p) = p in record {
+      id = id;
+      kind = kind;
+      pg_num = pg_num;
+      pgp_num = pgp_num;
+      rule = rule;
+      size = size;
+    }) d
 
 -- an OSD: exists, id, up and weight
 unfoldable pub osd_of : Data → Option OsdPart
-osd_of d = if has_only osd_keys d then (do
-  id ← field whole_number (codes "id") d
-  exists ← field as_bool (codes "exists") d
-  up ← field as_bool (codes "up") d
-  weight ← field whole_number (codes "weight") d
-  Some (record { id = id; exists = exists; up = up; weight = weight })) else None
+osd_of d = stated_as (
+    must (codes "exists") as_bool
+    & must (codes "id") whole_number
+    & must (codes "up") as_bool
+    & must (codes "weight") whole_number
+    & no_more) (λ (exists, p). let (id, p) = p in let (up, p) = p in let (weight, p) = p in record {
+      id = id;
+      exists = exists;
+      up = up;
+      weight = weight;
+    }) d
 
 -- ---- exceptions
 
@@ -194,12 +190,6 @@ stated_exception stated d =
 
 -- ---- the map
 
--- the keys of a map
-abbrev pub map_keys : List (List ℕ)
-map_keys =
-    codes "buckets" ∷ codes "epoch" ∷ codes "max_osd" ∷ codes "osds" ∷ codes "pg_upmap"
-    ∷ codes "pg_upmap_items" ∷ codes "pools" ∷ codes "rules" ∷ codes "version" ∷ []
-
 -- whether a step sets how a choose step tries
 abbrev pub states_tries : StepPart → Bool
 states_tries (SetChooseTries _) = true
@@ -212,27 +202,29 @@ states_tries Emit = false
 
 -- the parts of a map: all are required but the exceptions, which may be missing
 unfoldable pub map_of : Data → Option MapParts
-map_of d = if has_only map_keys d then (do
-  version ← field whole_number (codes "version") d
-  epoch ← field whole_number (codes "epoch") d
-  max_osd ← field whole_number (codes "max_osd") d
-  buckets ← field (stated_list stated_bucket) (codes "buckets") d
-  rules ← field (stated_list stated_rule) (codes "rules") d
-  pools ← field (stated_list stated_pool) (codes "pools") d
-  osds ← field (stated_list osd_of) (codes "osds") d
-  pg_upmap ← optional_list (stated_exception whole_number) (codes "pg_upmap") d
-  pg_upmap_items ← optional_list (stated_exception stated_pair) (codes "pg_upmap_items") d
-  Some (record {
-    version = version;
-    epoch = epoch;
-    max_osd = max_osd;
-    buckets = buckets;
-    rules = rules;
-    pools = pools;
-    osds = osds;
-    pg_upmap = pg_upmap;
-    pg_upmap_items = pg_upmap_items;
-  })) else None
+map_of d = stated_as (
+    must (codes "buckets") (stated_list stated_bucket)
+    & must (codes "epoch") whole_number
+    & must (codes "max_osd") whole_number
+    & must (codes "osds") (stated_list osd_of)
+    & may_list (codes "pg_upmap") (stated_exception whole_number)
+    & may_list (codes "pg_upmap_items") (stated_exception stated_pair)
+    & must (codes "pools") (stated_list stated_pool)
+    & must (codes "rules") (stated_list stated_rule)
+    & must (codes "version") whole_number
+    & no_more) (λ (buckets, p). let (epoch, p) = p in let (max_osd, p) = p in let (osds, p) = p in
+    let (pg_upmap, p) = p in let (pg_upmap_items, p) = p in let (pools, p) = p in let (rules, p) = p in
+    let (version, p) = p in record {
+      version = version;
+      epoch = epoch;
+      max_osd = max_osd;
+      buckets = buckets;
+      rules = rules;
+      pools = pools;
+      osds = osds;
+      pg_upmap = pg_upmap;
+      pg_upmap_items = pg_upmap_items;
+    }) d
 
 -- rules set tries in maps of version 2 alone
 abbrev pub in_its_version : MapParts → Option MapParts

@@ -1,17 +1,13 @@
 //! Changes as JSON texts state them.
 
-ghost use Rattle.std.proofs.Common.{rules};
 ghost use Rattle.std.specs.Prelude.{◌≡◌, option_map};
-ghost use Rattle.partjson.specs.StatedChanges.{reweight_of, stated_growth, crush_of, stated_change};
-ghost use Rattle.partjson.specs.Members.{HoldsCrush, HoldsChange, crush_if, change_if};
-ghost use Rattle.partjson.specs.Laws.{crush_made, no_crush, change_made, no_change};
+ghost use Rattle.partjson.specs.StatedChanges.{reweight_of, stated_growth, crush_of, change_with, stated_change};
 ghost use Rattle.partjson.specs.Places.{reweight_at, growth_at};
 
-use crate::lists::triple;
-use crate::objects::{FromJson, Slots, read_object};
-use crate::slots::{Slot, flat, if_there, member, or_empty, three_lists};
+use crate::fields::{May, MayList, Must};
+use crate::objects::{And, fields, object, parts, read_object};
+use crate::values::FromJson;
 use json::Reader;
-use jsonstream::tokens::skip;
 use keylist::Entries;
 use mapparts::{
     BucketPart, CrushParts, ExceptionPart, GrowPart, PairPart, PgParts, PoolPart, RulePart,
@@ -103,158 +99,90 @@ impl FromJson for GrowPart {
     }
 }
 
-/// The members of a CRUSH map that have come.
-#[derive(Default, Drop)]
-struct CrushSlots {
-    unknown: bool,
-    buckets: Slot<Entries<BucketPart>>,
-    rules: Slot<Entries<RulePart>>,
-}
-
-impl Slots for CrushSlots {
-    type Part = CrushParts;
-
-    ghost hold = { HoldsCrush };
-
-    ghost made = { crush_if };
-
-    ghost stated = { crush_of };
-
-    ghost none_held = { Prim.search rules };
-
-    ghost object_stated = { crush_made };
-
-    ghost other_stated = { no_crush };
-
-    fn take(
-        &mut self,
-        alloc: Global,
-        key: &str,
-        reader: &mut Reader<'_>,
-        depth: usize,
-    ) -> Result<(), Refusal> {
-        match key {
-            "buckets" => member(alloc, reader, depth, &mut self.buckets),
-            "rules" => member(alloc, reader, depth, &mut self.rules),
-            _ => {
-                self.unknown = true;
-                skip(reader, depth)
-            }
-        }
-    }
-
-    fn part(self, _alloc: Global) -> Option<CrushParts> {
-        if self.unknown {
-            return None;
-        }
-        Some(CrushParts {
-            buckets: flat(self.buckets)?,
-            rules: flat(self.rules)?,
-        })
-    }
-}
-
 impl FromJson for CrushParts {
     ghost stated = { crush_of };
 
+    #[tactic(auto, unfolding(crate::specs::StatedChanges::crush_of))]
     fn read(
         alloc: Global,
         reader: &mut Reader<'_>,
         depth: usize,
     ) -> Result<Option<CrushParts>, Refusal> {
-        read_object::<CrushSlots>(alloc, reader, depth)
-    }
-}
-
-/// The members of a change that have come.
-#[derive(Default, Drop)]
-pub(crate) struct ChangeSlots {
-    unknown: bool,
-    pub(crate) base: Slot<i128>,
-    down: Slot<Entries<i128>>,
-    grow_pool: Slot<Entries<GrowPart>>,
-    new_crush: Slot<CrushParts>,
-    new_items: Slot<Entries<ExceptionPart<PairPart>>>,
-    new_pools: Slot<Entries<PoolPart>>,
-    new_upmap: Slot<Entries<ExceptionPart<i128>>>,
-    old_items: Slot<Entries<PgParts>>,
-    old_pools: Slot<Entries<i128>>,
-    old_upmap: Slot<Entries<PgParts>>,
-    up: Slot<Entries<i128>>,
-    weight: Slot<Entries<RawReweight>>,
-}
-
-impl Slots for ChangeSlots {
-    type Part = RawChange;
-
-    ghost hold = { HoldsChange };
-
-    ghost made = { change_if };
-
-    ghost stated = { stated_change };
-
-    ghost none_held = { Prim.search rules };
-
-    ghost object_stated = { change_made };
-
-    ghost other_stated = { no_change };
-
-    fn take(
-        &mut self,
-        alloc: Global,
-        key: &str,
-        reader: &mut Reader<'_>,
-        depth: usize,
-    ) -> Result<(), Refusal> {
-        match key {
-            "base" => member(alloc, reader, depth, &mut self.base),
-            "down" => member(alloc, reader, depth, &mut self.down),
-            "grow_pool" => member(alloc, reader, depth, &mut self.grow_pool),
-            "new_crush" => member(alloc, reader, depth, &mut self.new_crush),
-            "new_items" => member(alloc, reader, depth, &mut self.new_items),
-            "new_pools" => member(alloc, reader, depth, &mut self.new_pools),
-            "new_upmap" => member(alloc, reader, depth, &mut self.new_upmap),
-            "old_items" => member(alloc, reader, depth, &mut self.old_items),
-            "old_pools" => member(alloc, reader, depth, &mut self.old_pools),
-            "old_upmap" => member(alloc, reader, depth, &mut self.old_upmap),
-            "up" => member(alloc, reader, depth, &mut self.up),
-            "weight" => member(alloc, reader, depth, &mut self.weight),
-            _ => {
-                self.unknown = true;
-                skip(reader, depth)
-            }
-        }
-    }
-
-    fn part(self, alloc: Global) -> Option<RawChange> {
-        let first = triple(
-            flat(self.base),
-            or_empty(alloc, self.old_pools),
-            if_there(self.new_crush),
-            !self.unknown,
-        );
-        let second = three_lists(alloc, self.new_pools, self.grow_pool, self.down);
-        let third = three_lists(alloc, self.up, self.weight, self.old_upmap);
-        let fourth = three_lists(alloc, self.old_items, self.new_upmap, self.new_items);
-        let (base, old_pools, new_crush) = first?;
-        let (new_pools, grow_pool, down) = second?;
-        let (up, weight, old_upmap) = third?;
-        let (old_items, new_upmap, new_items) = fourth?;
-        Some(RawChange {
-            base,
-            old_pools,
-            new_crush,
-            new_pools,
-            grow_pool,
-            down,
-            up,
-            weight,
-            old_upmap,
-            old_items,
-            new_upmap,
-            new_items,
+        object!(alloc, reader, depth, CrushParts {
+            buckets: Must "buckets",
+            rules: Must "rules",
         })
     }
+}
+
+/// The fields of a change of which nothing has come, by the kind of its base.
+macro_rules! change_fields {
+    ($base:ident) => {
+        fields!(
+            $base "base",
+            MayList "down",
+            MayList "grow_pool",
+            May "new_crush",
+            MayList "new_items",
+            MayList "new_pools",
+            MayList "new_upmap",
+            MayList "old_items",
+            MayList "old_pools",
+            MayList "old_upmap",
+            MayList "up",
+            MayList "weight"
+        )
+    };
+}
+
+pub(crate) use change_fields;
+
+/// What the fields of a change make: those of the exceptions and behind them,
+type Behind = (
+    Entries<PgParts>,
+    (
+        Entries<i128>,
+        (
+            Entries<PgParts>,
+            (Entries<i128>, (Entries<RawReweight>, ())),
+        ),
+    ),
+);
+
+/// the new parts before them,
+type New = (
+    Option<CrushParts>,
+    (
+        Entries<ExceptionPart<PairPart>>,
+        (Entries<PoolPart>, (Entries<ExceptionPart<i128>>, Behind)),
+    ),
+);
+
+/// and all.
+type Found = (i128, (Entries<i128>, (Entries<GrowPart>, New)));
+
+/// The change of what its fields make.
+pub(crate) fn change_with(found: Option<Found>) -> Option<RawChange>
+    ensures { result ≡ option_map change_with found }
+{
+    let parts!(
+        base, down, grow_pool, new_crush, new_items, new_pools, new_upmap, old_items, old_pools,
+        old_upmap, up, weight
+    ) = found?;
+    Some(RawChange {
+        base,
+        old_pools,
+        new_crush,
+        new_pools,
+        grow_pool,
+        down,
+        up,
+        weight,
+        old_upmap,
+        old_items,
+        new_upmap,
+        new_items,
+    })
 }
 
 impl FromJson for RawChange {
@@ -265,6 +193,8 @@ impl FromJson for RawChange {
         reader: &mut Reader<'_>,
         depth: usize,
     ) -> Result<Option<RawChange>, Refusal> {
-        read_object::<ChangeSlots>(alloc, reader, depth)
+        let mut table = change_fields!(Must);
+        let found = read_object(alloc, reader, depth, &mut table)?;
+        Ok(change_with(found))
     }
 }

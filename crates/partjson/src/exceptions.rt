@@ -5,7 +5,7 @@ ghost use Rattle.mapparts.specs.PgText.{parts_in};
 ghost use Rattle.partjson.specs.StatedMaps.{stated_pg, stated_pair, stated_exception};
 ghost use Rattle.partjson.specs.Places.{pair_at};
 
-use crate::objects::FromJson;
+use crate::values::FromJson;
 use crate::words::{FromWord, word};
 use json::Reader;
 use keylist::Entries;

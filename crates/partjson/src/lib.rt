@@ -5,9 +5,9 @@
 //! - `unbased`: changes without a base
 //! - `forest`, `rules`, `pools`, `exceptions`: buckets, rules and their steps, pools and OSDs, groups and their
 //!   exceptions
-//! - `objects`, `slots`: what a value can state, objects, and the slots of their members
+//! - `objects`, `fields`: objects, each read by the list of its fields
 //! - `lists`: lists of any length, and of two or three values
-//! - `values`, `words`: numbers and flags, and words
+//! - `values`, `words`: what a value can state, numbers and flags, and words
 //! - `profile`: what texts state, where their profile has it
 //! - `whole`: what a whole text states
 #![tactic(auto)]
@@ -18,6 +18,7 @@ ghost use Rattle.partjson.specs.StatedLoads.{stated_loads};
 
 mod change;
 mod exceptions;
+mod fields;
 mod forest;
 mod lists;
 mod loads;
@@ -26,7 +27,6 @@ mod objects;
 mod pools;
 mod profile;
 mod rules;
-mod slots;
 mod unbased;
 mod values;
 mod whole;

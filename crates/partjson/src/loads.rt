@@ -4,7 +4,7 @@ ghost use Rattle.std.specs.Prelude.{◌≡◌, option_map};
 ghost use Rattle.partjson.specs.StatedLoads.{load_of};
 ghost use Rattle.partjson.specs.Places.{load_at};
 
-use crate::objects::FromJson;
+use crate::values::FromJson;
 use json::Reader;
 use refusal::Refusal;
 use std::alloc::Global;

@@ -1,23 +1,20 @@
 //! Rules as JSON texts state them.
 
-ghost use Rattle.std.proofs.Common.{rules};
 ghost use Rattle.std.specs.Prelude.{◌≡◌, option_map};
 ghost use Rattle.json.specs.Json.{parse_map};
 ghost use Rattle.serde_json.specs.Data.{array};
 ghost use Rattle.jsonstream.specs.Stream.{rest_of_list, TakesValue};
 ghost use Rattle.partjson.specs.StatedMaps.{rule_kind, rule_kind_of, stated_step, stated_rule};
-ghost use Rattle.partjson.specs.Members.{HoldsRule, rule_if};
-ghost use Rattle.partjson.specs.Laws.{rule_made, no_rule};
 ghost use Rattle.partjson.specs.Steps.{step_word, step_word_of, one_number, emit_with, choose_with, step_with, step_if};
 
+use crate::fields::Must;
 use crate::lists::{entries, next_entry};
-use crate::objects::{FromJson, Slots, read_object};
-use crate::slots::{Slot, flat, member};
+use crate::objects::{And, fields, object, parts, read_object};
+use crate::values::FromJson;
 use crate::words::{FromWord, word};
 use crush::{Mode, RuleKind};
 use json::Reader;
-use jsonstream::tokens::{list_begins, skip};
-use keylist::Entries;
+use jsonstream::tokens::list_begins;
 use mapparts::{ChoosePart, RulePart, StepPart};
 use refusal::Refusal;
 use std::alloc::Global;
@@ -190,68 +187,19 @@ impl FromJson for StepPart {
     }
 }
 
-/// The members of a rule that have come.
-#[derive(Default, Drop)]
-struct RuleSlots {
-    unknown: bool,
-    id: Slot<i128>,
-    kind: Slot<RuleKind>,
-    steps: Slot<Entries<StepPart>>,
-}
-
-impl Slots for RuleSlots {
-    type Part = RulePart;
-
-    ghost hold = { HoldsRule };
-
-    ghost made = { rule_if };
-
-    ghost stated = { stated_rule };
-
-    ghost none_held = { Prim.search rules };
-
-    ghost object_stated = { rule_made };
-
-    ghost other_stated = { no_rule };
-
-    fn take(
-        &mut self,
-        alloc: Global,
-        key: &str,
-        reader: &mut Reader<'_>,
-        depth: usize,
-    ) -> Result<(), Refusal> {
-        match key {
-            "id" => member(alloc, reader, depth, &mut self.id),
-            "kind" => member(alloc, reader, depth, &mut self.kind),
-            "steps" => member(alloc, reader, depth, &mut self.steps),
-            _ => {
-                self.unknown = true;
-                skip(reader, depth)
-            }
-        }
-    }
-
-    fn part(self, _alloc: Global) -> Option<RulePart> {
-        if self.unknown {
-            return None;
-        }
-        Some(RulePart {
-            id: flat(self.id)?,
-            kind: flat(self.kind)?,
-            steps: flat(self.steps)?,
-        })
-    }
-}
-
 impl FromJson for RulePart {
     ghost stated = { stated_rule };
 
+    #[tactic(auto, unfolding(crate::specs::StatedMaps::stated_rule))]
     fn read(
         alloc: Global,
         reader: &mut Reader<'_>,
         depth: usize,
     ) -> Result<Option<RulePart>, Refusal> {
-        read_object::<RuleSlots>(alloc, reader, depth)
+        object!(alloc, reader, depth, RulePart {
+            id: Must "id",
+            kind: Must "kind",
+            steps: Must "steps",
+        })
     }
 }

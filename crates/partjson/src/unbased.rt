@@ -1,11 +1,14 @@
 //! Changes without a base, as JSON texts state them.
 
-ghost use Rattle.std.proofs.Common.{rules};
-ghost use Rattle.partjson.specs.UnbasedChanges.{unbased_change};
-ghost use Rattle.partjson.specs.UnbasedLaws.{HoldsUnbased, unbased_if, unbased_made, no_unbased};
+ghost use Rattle.std.specs.Prelude.{◌≡◌};
+ghost use Rattle.json.specs.Json.{parse_map};
+ghost use Rattle.jsonstream.specs.Stream.{next, TakesValue};
+ghost use Rattle.partjson.specs.StatedChanges.{unbased_change};
 
-use crate::change::{ChangeSlots, RawChange};
-use crate::objects::{FromJson, Slots, read_object};
+use crate::change::{RawChange, change_fields, change_with};
+use crate::fields::{May, MayList, Unstated};
+use crate::objects::{And, fields, read_object};
+use crate::values::FromJson;
 use json::Reader;
 use refusal::Refusal;
 use std::alloc::Global;
@@ -25,47 +28,17 @@ impl Model for Unbased {
     ghost view = { λ u. u.change };
 }
 
-/// The members of a change without a base that have come.
-#[derive(Default, Drop)]
-struct UnbasedSlots {
-    change: ChangeSlots,
-}
-
-impl Slots for UnbasedSlots {
-    type Part = Unbased;
-
-    ghost hold = { HoldsUnbased };
-
-    ghost made = { unbased_if };
-
-    ghost stated = { unbased_change };
-
-    ghost none_held = { Prim.search rules };
-
-    ghost object_stated = { unbased_made };
-
-    ghost other_stated = { no_unbased };
-
-    fn take(
-        &mut self,
-        alloc: Global,
-        key: &str,
-        reader: &mut Reader<'_>,
-        depth: usize,
-    ) -> Result<(), Refusal> {
-        self.change.take(alloc, key, reader, depth)
-    }
-
-    fn part(self, alloc: Global) -> Option<Unbased> {
-        let mut slots = self.change;
-        if slots.base.is_some() {
-            return None;
-        }
-        slots.base = Some(Some(0));
-        Some(Unbased {
-            change: slots.part(alloc)?,
-        })
-    }
+/// The parts of a change that the next value states without a base.
+fn change_at_zero(
+    alloc: Global,
+    reader: &mut Reader<'_>,
+    depth: usize,
+) -> Result<Option<RawChange>, Refusal>
+    ensures { TakesValue (parse_map unbased_change (next depth reader.old)) result reader.new }
+{
+    let mut table = change_fields!(Unstated);
+    let found = read_object(alloc, reader, depth, &mut table)?;
+    Ok(change_with(found))
 }
 
 impl FromJson for Unbased {
@@ -76,6 +49,9 @@ impl FromJson for Unbased {
         reader: &mut Reader<'_>,
         depth: usize,
     ) -> Result<Option<Unbased>, Refusal> {
-        read_object::<UnbasedSlots>(alloc, reader, depth)
+        let Some(change) = change_at_zero(alloc, reader, depth)? else {
+            return Ok(None);
+        };
+        Ok(Some(Unbased { change }))
     }
 }

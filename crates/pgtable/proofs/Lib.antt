@@ -11,3 +11,5 @@ pub mod ChangedSets
 pub mod PoolPatches
 pub mod PatchedInPlace
 pub mod Parts
+pub mod Sharing
+pub mod Naming

@@ -1,6 +1,6 @@
 -- Parts of a pool in rooms: side by side they are its groups, and their runs add up to its.
-use Rattle.std.proofs.Common.{◌≡◌, ◌∙◌, ◌++◌, refl, sym, ap, subst, inl, inr, ℕ, zero, suc, ◌+◌, ◌-◌, ◌*◌, ◌<◌, ◌≤◌, ◌^◌, min, List, [], ◌∷◌, length, map, get_or, Option, Some, None, Result, Ok, Err, IfOk, IfSome, IsSome, OnOk, arith}
-use Rattle.std.specs.List.{All, range_with_len, sum_by}
+use Rattle.std.proofs.Common.{◌≡◌, ◌∙◌, ◌++◌, refl, sym, ap, subst, inl, inr, ℕ, suc, ◌+◌, ◌-◌, ◌<◌, ◌≤◌, ◌^◌, min, List, [], ◌∷◌, length, map, get_or, Option, Some, None, Result, Ok, Err, IfOk, IfSome, IsSome, OnOk, arith}
+use Rattle.std.specs.List.{All, range_with_len}
 use Rattle.std.proofs.lemmas.Bool.{cases_order, false≢true}
 use Rattle.std.proofs.lemmas.List.{get_or_default, map-append}
 use Rattle.std.proofs.lemmas.List.FromFn.{get_or-map-range_with_len, length-map-range_with_len}
@@ -12,7 +12,7 @@ use Rattle.maptypes.specs.Sets.{Places}
 use Rattle.osdmap.specs.Maps.{ClusterMap, HoldsTogether, pool_at}
 use Rattle.osdmap.specs.Placement.{mapped_set}
 use Rattle.osdmap.proofs.Fitting.{mapped_fits}
-use Rattle.pgtable.specs.Rooms.{start_of, len_of, part_of, runs_of, IsPart, RunMore}
+use Rattle.pgtable.specs.Rooms.{start_of, len_of, part_of, IsPart, RunMore}
 use Rattle.pgtable.specs.Tables.{RunsMore}
 use Rattle.pgtable.specs.declared.rooms.Room.{Room}
 
@@ -41,6 +41,7 @@ pub on_ok : {X E : Type 0} (r : Result X E) (P Q : Type 0) → OnOk r P → (P �
 on_ok (Ok x) P Q is f = f is
 on_ok (Err e) P Q is f = tt
 
+-- what follows from what holds of a value follows of every value that an answer has
 pub if_ok : {X E : Type 0} (r : Result X E) (P Q : X → Type 0) → IfOk r P → ((x : X) → P x → Q x) → IfOk r Q
 if_ok (Ok x) P Q is f = f x is
 if_ok (Err e) P Q is f = tt

@@ -1,11 +1,11 @@
 -- Tables whose pools all stay in place: other sets for groups of one after another, and these put in.
-use Rattle.std.proofs.Common.{◌≡◌, ◌∙◌, refl, sym, ap, ℕ, suc, ◌⊎◌, ◌+◌, ◌<◌, ◌≤◌, Bool, true, List, [], ◌∷◌, ◌++◌, length, map, replicate, take, Option, Some, None, inl, inr, arith}
+use Rattle.std.proofs.Common.{◌≡◌, ◌∙◌, refl, sym, ap, subst, ℕ, zero, suc, ◌⊎◌, ◌+◌, ◌-◌, ◌^◌, ◌<◌, ◌≤◌, Bool, true, List, [], ◌∷◌, ◌++◌, get_or, length, map, replicate, take, Option, Some, None, inl, inr, arith}
 use Rattle.std.specs.Prelude.{slice_get}
 use Rattle.std.specs.List.{zip, sum_by}
 use Rattle.std.specs.Option.{option_map}
 use Rattle.std.proofs.lemmas.Bool.{cases_lt}
-use Rattle.std.proofs.lemmas.List.{length-map, length-append, length-replicate, take_all}
-use Rattle.std.proofs.lemmas.List.Sums.{sum_by-cons}
+use Rattle.std.proofs.lemmas.List.{append-nil, append_assoc, length-map, length-append, take_all}
+use Rattle.std.proofs.lemmas.List.Sums.{sum_by-cons, sum_by_more}
 use Rattle.std.proofs.lemmas.Option.{slice_get-map, slice_get_within, get_or_from_slice_get}
 use Rattle.grouptable.specs.Sets.{GroupSets}
 use Rattle.grouptable.specs.declared.table.GroupPatch.{GroupPatch}
@@ -14,15 +14,15 @@ use Rattle.maptypes.specs.declared.pg.Pg.{Pg}
 use Rattle.maptypes.specs.Pools.{PoolFacts}
 use Rattle.osdmap.specs.Maps.{ClusterMap, pool_at, HoldsTogether}
 use Rattle.osdmap.specs.Evals.{evals_of}
+use Rattle.osdmap.proofs.Fitting.{pool_within}
 use Rattle.pgtable.proofs.ChangedSets.{LeavesRawSets, pools_stay, none_touched, source_concerned, none_concerned}
 use Rattle.pgtable.proofs.Keeping.{evals_changes, lead_none}
 use Rattle.pgtable.specs.declared.pool_table.PoolTable.{PoolTable}
 use Rattle.pgtable.specs.Tables.{TableFacts, pool_table, tables_of, IsTableOf}
 use Rattle.pgtable.specs.Candidates.{IsCandidates}
-use Rattle.pgtable.specs.Patches.{changed_map, changes_of, is_empty, with_sets, IsSource, LeadGroups, LeadsFrom, FitGroups, evals_in, with_patch}
+use Rattle.pgtable.specs.Patches.{changed_map, changes_of, is_empty, with_sets, concerned_numbers, IsSource, LeadGroups, LeadsFrom, FitGroups, evals_in, with_patch}
 use Rattle.pgtable.proofs.KeptTables.{same_lists, long_zip, get_zip}
 use Rattle.pgtable.proofs.Found.{found_at}
-use Rattle.pgtable.proofs.PoolPatches.{same_everywhere}
 use Rattle.pgtable.proofs.Making.{element, get_before, get_behind, get_past, evals_whole}
 
 -- ---- all pools
@@ -125,42 +125,78 @@ pub lead_in_place : (t : TableFacts) (m : ClusterMap) (c : ChangeParts) (patches
 lead_in_place t m c patches is s sofar =
     lead_ends t.pools (changed_map m c) patches (ap length is.pools ∙ length-map m.pools (pool_table m) ∙ sym (ap length (pools_stay m c s))) (λ k q at. rw (pools_stay m c s) ((table_at t m k q is at).2)) sofar
 
--- ---- a change that concerns no group
+-- ---- pools of which a change concerns no group
 
-module _ (t : TableFacts) (m : ClusterMap) (c : ChangeParts) (source : ClusterMap) (is_after : Bool) (groups : List Pg) (is : IsTableOf t m) (s : LeavesRawSets c) (leads : LeadsFrom m c (changed_map m c))
-    (is_source : IsSource m c source is_after) (candidates : IsCandidates source c groups) (idle : is_empty groups ≡ true) where
-  -- no group of a pool that stands at a position is concerned
-  idle_numbers : (k : ℕ) (q : PoolTable) → slice_get t.pools k ≡ Some q → [] ≡ changes_of (changed_map m c) c q.pool
-  idle_numbers k q at =
-      let numbers = source_concerned m source c q.pool is_after is_source in
-      ap (with_sets (changed_map m c) q.pool) (none_concerned source c q.pool groups candidates idle ∙ numbers)
+-- what the first pools get, and how many of their groups were evaluated for it
+pub record Sofar (old : List PoolTable) (m : ClusterMap) (c : ChangeParts) (i : ℕ) (patches : List (Option GroupPatch)) (count : ℕ) : Type 0 where
+  pub made : LeadFirst old m i patches
+  pub evals : count ≡ sum_by (λ (q : PoolTable). evals_in m c q.pool) (take i old)
+
+module _ (t : TableFacts) (m : ClusterMap) (c : ChangeParts) (source : ClusterMap) (is_after : Bool) (is : IsTableOf t m) (s : LeavesRawSets c) (leads : LeadsFrom m c (changed_map m c)) (is_source : IsSource m c source is_after) where
+  -- it gives none of its groups another set
+  quiet_changes : (q : PoolTable) → [] ≡ concerned_numbers source c q.pool → [] ≡ changes_of (changed_map m c) c q.pool
+  quiet_changes q none = ap (with_sets (changed_map m c) q.pool) (none ∙ source_concerned m source c q.pool is_after is_source)
 
   -- so it keeps its sets
-  idle_lead : (k : ℕ) (q : PoolTable) → slice_get t.pools k ≡ Some q → LeadGroups (changed_map m c) q.pool q.groups None
-  idle_lead k q at =
+  quiet_lead : (k : ℕ) (q : PoolTable) → slice_get t.pools k ≡ Some q → [] ≡ concerned_numbers source c q.pool → LeadGroups (changed_map m c) q.pool q.groups None
+  quiet_lead k q at none =
       let here = table_at t m k q is at in
       let there : pool_at (changed_map m c).pools q.pool.id ≡ Some q.pool = rw (pools_stay m c s) here.1 in
-      lead_none m (changed_map m c) c q.pool leads there (none_touched (changed_map m c) c q.pool s) q.groups [] (ap (λ (r : PoolTable). r.groups) here.0) (idle_numbers k q at) refl
+      lead_none m (changed_map m c) c q.pool leads there (none_touched (changed_map m c) c q.pool s) q.groups [] (ap (λ (r : PoolTable). r.groups) here.0) (quiet_changes q none) refl
 
-  -- all do
-  pub idle_leads : LeadFirst t.pools (changed_map m c) (length t.pools) (replicate (length t.pools) None)
-  idle_leads = record {
-    long = length-replicate (length t.pools) None;
-    each = λ k q one there at.
-        let none : None ≡ one = same_everywhere (length t.pools) k None one at in
-        rw (← none) (idle_lead k q there);
-  }
+  -- and nothing of it is evaluated
+  quiet_evals : (q : PoolTable) → [] ≡ concerned_numbers source c q.pool → evals_in (changed_map m c) c q.pool ≡ 0
+  quiet_evals q none = sym (evals_changes (changed_map m c) c q.pool [] 0 (none_touched (changed_map m c) c q.pool s) (quiet_changes q none) refl)
 
-  -- and nothing is evaluated
-  pub idle_evals : 0 ≡ evals_of (changed_map m c) c
-  idle_evals =
-      sym (none_in t.pools (λ k q at. sym (evals_changes (changed_map m c) c q.pool [] 0 (none_touched (changed_map m c) c q.pool s) (idle_numbers k q at) refl)))
-      ∙ ap (sum_by (λ (q : PoolTable). evals_in (changed_map m c) c q.pool)) (sym (take_all (length t.pools) t.pools (omega arith)))
-      ∙ evals_in_place t m c (length t.pools) is s (omega arith)
-    where
-      zero_plus : (n : ℕ) → 0 + n ≡ n
-      zero_plus n = omega arith
+  -- a pool has fewer groups than a key has numbers
+  groups_few : (k : ℕ) (q : PoolTable) → slice_get t.pools k ≡ Some q → q.pool.pg_num ≤ 2 ^ 32
+  groups_few k q at = omega (arith, (pool_within m q.pool is.holds (table_at t m k q is at).1).groups_most)
 
-      none_in : (ps : List PoolTable) → ((k : ℕ) (q : PoolTable) → slice_get ps k ≡ Some q → evals_in (changed_map m c) c q.pool ≡ 0) → sum_by (λ (q : PoolTable). evals_in (changed_map m c) c q.pool) ps ≡ 0
-      none_in [] each = refl
-      none_in (p ∷ ps) each = sum_by-cons (λ (q : PoolTable). evals_in (changed_map m c) c q.pool) p ps ∙ ap (λ n. n + sum_by (λ (q : PoolTable). evals_in (changed_map m c) c q.pool) ps) (each 0 p refl) ∙ zero_plus _ ∙ none_in ps (λ k q at. each (suc k) q at)
+  -- such pools stand behind the first ones
+  skip : (n i : ℕ) (patches : List (Option GroupPatch)) (evals : ℕ) → i + n ≤ length t.pools → Sofar t.pools (changed_map m c) c i patches evals
+      → ((k : ℕ) (q : PoolTable) → i ≤ k → k < i + n → slice_get t.pools k ≡ Some q → [] ≡ concerned_numbers source c q.pool)
+      → Sofar t.pools (changed_map m c) c (i + n) (patches ++ replicate n None) evals
+  skip zero i patches evals few sofar quiet =
+      let same : i + zero ≡ i = omega arith in
+      rw (same, append-nil patches) sofar
+  skip (suc n) i patches evals few sofar quiet =
+      let q = element t.pools i (omega (arith, few)) in
+      let none = quiet i q.0 (omega arith) (omega arith) q.1 in
+      let sum = sum_by_more (λ (r : PoolTable). evals_in (changed_map m c) c r.pool) t.pools i q.0 (omega (arith, few)) in
+      let here = get_or_from_slice_get t.pools i q.0 q.0 q.1 in
+      let own : evals_in (changed_map m c) c (get_or t.pools i q.0).pool ≡ 0 = rw here (quiet_evals q.0 none) in
+      let next : i + 1 + n ≡ i + suc n = omega arith in
+      let rest = skip n (i + 1) (patches ++ None ∷ []) evals (omega (arith, few)) (record {
+        made = lead_more t.pools (changed_map m c) i q.0 patches None sofar.made q.1 (quiet_lead i q.0 q.1 none);
+        evals = omega (arith, sofar.evals, sum, own);
+      }) (λ k r from below at. quiet k r (omega (arith, from)) (omega (arith, below)) at) in
+      let here : Sofar t.pools (changed_map m c) c (i + suc n) ((patches ++ None ∷ []) ++ replicate n None) evals = subst (λ k. Sofar t.pools (changed_map m c) c k ((patches ++ None ∷ []) ++ replicate n None) evals) next rest in
+      subst (λ (ps : List (Option GroupPatch)). Sofar t.pools (changed_map m c) c (i + suc n) ps evals) (append_assoc patches (None ∷ []) (replicate n None)) here
+
+  -- up to a place
+  pub skipped_to : (i j : ℕ) (patches : List (Option GroupPatch)) (evals : ℕ) → i ≤ j → j ≤ length t.pools → Sofar t.pools (changed_map m c) c i patches evals
+      → ((k : ℕ) (q : PoolTable) → i ≤ k → k < j → slice_get t.pools k ≡ Some q → q.pool.pg_num ≤ 2 ^ 32 → [] ≡ concerned_numbers source c q.pool)
+      → Sofar t.pools (changed_map m c) c j (patches ++ replicate (j - length patches) None) evals
+  skipped_to i j patches evals up inside sofar quiet =
+      let end : i + (j - i) ≡ j = omega (arith, up) in
+      let left : j - length patches ≡ j - i = omega (arith, sofar.made.long) in
+      let all = skip (j - i) i patches evals (omega (arith, up, inside)) sofar (λ k q from below at. quiet k q from (omega (arith, below, up)) at (groups_few k q at)) in
+      rw left (rw end at all)
+
+  -- from the first pool on
+  pub skipped_first : (j : ℕ) → j ≤ length t.pools → ((k : ℕ) (q : PoolTable) → 0 ≤ k → k < j → slice_get t.pools k ≡ Some q → q.pool.pg_num ≤ 2 ^ 32 → [] ≡ concerned_numbers source c q.pool)
+      → Sofar t.pools (changed_map m c) c j (replicate j None) 0
+  skipped_first j inside quiet =
+      let whole : j - 0 ≡ j = omega arith in
+      subst (λ n. Sofar t.pools (changed_map m c) c j (replicate n None) 0) whole (skipped_to 0 j [] 0 (omega arith) inside (record { made = lead_begins t.pools (changed_map m c) [] refl; evals = refl }) quiet)
+
+  -- where the change concerns no group at all, these are all pools
+  module _ (groups : List Pg) (candidates : IsCandidates source c groups) (idle : is_empty groups ≡ true) where
+    all_quiet : Sofar t.pools (changed_map m c) c (length t.pools) (replicate (length t.pools) None) 0
+    all_quiet = skipped_first (length t.pools) (omega arith) (λ k q from below at few. none_concerned source c q.pool groups candidates idle)
+
+    pub idle_leads : LeadFirst t.pools (changed_map m c) (length t.pools) (replicate (length t.pools) None)
+    idle_leads = all_quiet.made
+
+    pub idle_evals : 0 ≡ evals_of (changed_map m c) c
+    idle_evals = all_quiet.evals ∙ evals_in_place t m c (length t.pools) is s (omega arith)

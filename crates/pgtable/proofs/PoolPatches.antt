@@ -1,14 +1,15 @@
 -- The other sets of groups of pools, kept for those pools that get any: one pool more, and these put into the tables.
-use Rattle.std.proofs.Common.{◌≡◌, ◌≢◌, ◌∙◌, refl, sym, ap, subst, ℕ, zero, suc, ◌⊎◌, ◌+◌, ◌<◌, ◌≤◌, true, false, eqb, List, [], ◌∷◌, ◌++◌, length, map, replicate, set, drop, take, Option, Some, None, inl, inr, arith}
+use Rattle.std.proofs.Common.{◌≡◌, ◌≢◌, ◌∙◌, refl, sym, ap, subst, ℕ, zero, suc, ◌⊎◌, ◌+◌, ◌-◌, ◌<◌, ◌≤◌, true, false, eqb, List, [], ◌∷◌, ◌++◌, length, map, replicate, set, drop, take, Option, Some, None, inl, inr, arith}
 use Rattle.std.specs.Prelude.{slice_get}
 use Rattle.std.specs.List.{zip, range_with_len}
 use Rattle.std.specs.Option.{option_map}
 use Rattle.std.proofs.lemmas.Bool.{cases_Bool, cases_lt, both_ways, eqb-true}
 use Rattle.std.proofs.lemmas.Bool.Decides.{nat_tests}
 use Rattle.std.proofs.Math.Seq.{drop-length}
-use Rattle.std.proofs.lemmas.List.{drop_more, length-append, length-map, length-set, take_at, take-take}
+use Rattle.std.proofs.lemmas.List.{drop_more, length-append, length-map, length-set, map-append, take_at, take-take}
 use Rattle.std.proofs.lemmas.List.FromFn.{map-range_with_len_more, length-map-range_with_len, length-range_with_len, get_or-range_with_len}
 use Rattle.std.proofs.lemmas.Option.{slice_get-map, slice_get-get_or, slice_get_within, get_or_from_slice_get}
+use Rattle.crush.proofs.Rounds.{range_append}
 use Rattle.grouptable.specs.Tables.{IsPatchFor}
 use Rattle.pgtable.specs.declared.group_patches.PoolPatch.{PoolPatch}
 use Rattle.pgtable.specs.declared.pool_table.PoolTable.{PoolTable}
@@ -21,9 +22,11 @@ use Rattle.pgtable.proofs.Making.{element, get_before, get_behind, get_past}
 eqb-refl : (n : ℕ) → eqb n n ≡ true
 eqb-refl n = grind (arith, nat_tests)
 
+-- a number below another is not that one
 eqb-less : (a b : ℕ) → a < b → eqb a b ≡ false
 eqb-less a b less = grind (arith, nat_tests)
 
+-- nothing and a number are that number
 zero_plus : (n : ℕ) → 0 + n ≡ n
 zero_plus n = omega arith
 
@@ -80,32 +83,37 @@ patches_none some count none = ap (λ ps. patches_by ps count) none ∙ none_fro
 pub patches_long : (some : List PoolPatch) (count : ℕ) → length (patches_by some count) ≡ count
 patches_long some count = length-map-range_with_len (patch_at some) 0 count
 
--- what stands in a list of one entry is that
-pub same_everywhere : {X : Type 0} (n k : ℕ) (x y : X) → slice_get (replicate n x) k ≡ Some y → x ≡ y
-same_everywhere zero k x y is = let wrong : None ≡ Some y = is in absurd (cc)
-same_everywhere (suc n) zero x y is = let same : Some x ≡ Some y = is in cc
-same_everywhere (suc n) (suc k) x y is = same_everywhere n k x y is
-
 module _ (some : List PoolPatch) (count : ℕ) (below : AreBelow some count) where
-  -- the next pool has none so far
-  none_next : patch_at some count ≡ None
-  none_next = patch_none some count (λ i p is. λ e. omega (arith, below.below i p is))
+  -- the pools behind have none so far
+  none_at : (k : ℕ) → count ≤ k → patch_at some k ≡ None
+  none_at k past = patch_none some k (λ i p is. λ e. omega (arith, below.below i p is, past))
 
-  -- a pool that gets none
-  pub pushed_none : patches_by some (count + 1) ≡ patches_by some count ++ None ∷ []
-  pushed_none = map-range_with_len_more (patch_at some) 0 count count (omega arith) ∙ ap (λ x. patches_by some count ++ x ∷ []) none_next
+  none_past : (n a : ℕ) → count ≤ a → map (patch_at some) (range_with_len a n) ≡ replicate n None
+  none_past zero a past = refl
+  none_past (suc n) a past = ap (λ x. x ∷ map (patch_at some) (range_with_len (a + 1) n)) (none_at a past) ∙ ap (λ xs. None ∷ xs) (none_past n (a + 1) (omega (arith, past)))
+
+  -- pools that get none
+  pub skipped : (more : ℕ) → count ≤ more → patches_by some more ≡ patches_by some count ++ replicate (more - length (patches_by some count)) None
+  skipped more past =
+      let rest = more - count in
+      let all : more ≡ count + rest = omega (arith, past) in
+      let left : more - length (patches_by some count) ≡ rest = omega (arith, patches_long some count) in
+      rw left (
+      ap (patches_by some) all ∙ ap (map (patch_at some)) (range_append 0 count rest) ∙ map-append (patch_at some) (range_with_len 0 count) (range_with_len (0 + count) rest)
+      ∙ ap (λ xs. patches_by some count ++ xs) (none_past rest (0 + count) (omega arith))
+      )
 
   -- and one that does
   pub pushed_some : (p : PoolPatch) → p.at ≡ count → patches_by (some ++ p ∷ []) (count + 1) ≡ patches_by some count ++ Some p.patch ∷ []
   pushed_some p here =
       map-range_with_len_more (patch_at (some ++ p ∷ [])) 0 count count (omega arith)
-      ∙ ap (λ x. map (patch_at (some ++ p ∷ [])) (range_with_len 0 count) ++ x ∷ []) (found_behind some p count none_next here)
+      ∙ ap (λ x. map (patch_at (some ++ p ∷ [])) (range_with_len 0 count) ++ x ∷ []) (found_behind some p count (none_at count (omega arith)) here)
       ∙ ap (λ xs. xs ++ Some p.patch ∷ []) (same_range (patch_at (some ++ p ∷ [])) (patch_at some) count (λ k less. found_before some p k (λ e. omega (arith, here))))
 
-  -- the positions are below the next number too
-  pub below_more : AreBelow some (count + 1)
-  below_more = record {
-    below = λ i p is. omega (arith, below.below i p is);
+  -- the positions are below greater numbers too
+  pub below_more : (more : ℕ) → count ≤ more → AreBelow some more
+  below_more more past = record {
+    below = λ i p is. omega (arith, below.below i p is, past);
     rise = below.rise;
   }
 

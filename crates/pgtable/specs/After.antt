@@ -1,5 +1,5 @@
 -- The map after a change, and the patch to its table, as the code that makes patches goes by them.
-use Rattle.std.specs.Prelude.{◌≡◌, ℕ, Bool, Some}
+use Rattle.std.specs.Prelude.{◌≡◌, ℕ, Bool, List, Some}
 use Rattle.crush.specs.Run.{Ran}
 use Rattle.maptypes.specs.Pools.{PoolFacts}
 use Rattle.osdmap.specs.Evals.{is_touched, evals_of}
@@ -7,7 +7,8 @@ use Rattle.osdmap.specs.Maps.{ClusterMap, pool_at}
 use Rattle.pgtable.specs.declared.patch.Patch.{Patch}
 use Rattle.pgtable.specs.declared.update.Update.{Update}
 use Rattle.pgtable.specs.Patches.{changed_map, evals_in, LeadsTo}
-use Rattle.pgtable.specs.Tables.{TableFacts, RunsMore}
+use Rattle.pgtable.specs.Rooms.{RunMore}
+use Rattle.pgtable.specs.Tables.{TableFacts}
 
 -- the map after a change
 abbrev pub map_after : Update → ClusterMap
@@ -30,7 +31,7 @@ change_evals u = evals_of (map_after u) u.change.now
 
 -- a patch makes of a table the one of the map after a change, tells the evaluations of the change, and took a run for
 -- each of them
-pub record IsPatchBy (u : Update) (t : TableFacts) (old new : Ran) (p : Patch) : Type 0 where
+pub record IsPatchBy (u : Update) (t : TableFacts) (old new : List Ran) (p : Patch) : Type 0 where
   pub leads : LeadsTo (map_after u) t p
   pub counted : p.evals ≡ change_evals u
-  pub runs : RunsMore p.evals old new
+  pub runs : RunMore p.evals old new

@@ -5,3 +5,4 @@ pub mod Patches
 pub mod PoolPatches
 pub mod After
 pub mod Rooms
+pub mod Shares

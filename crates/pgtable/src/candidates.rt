@@ -121,7 +121,7 @@ pub(crate) fn candidates(
 }
 
 /// How many of some groups, in ascending order, come before a key; by halving.
-fn count_below(groups: &[Pg], key: u64) -> usize
+pub(crate) fn count_below(groups: &[Pg], key: u64) -> usize
     requires { IsRising pg_key groups.now }
     ensures within { result ≤ length groups.now }
     ensures below { (k : ℕ) (d : Pg) → k < result → pg_key (slice_index_or groups.now k d) < key }

@@ -23,7 +23,7 @@ pub(crate) struct GroupPatches {
 }
 
 impl GroupPatches {
-    ghost use Rattle.std.specs.Prelude.{◌≡◌, ◌++◌, ◌∷◌, [], ◌<◌, length, replicate, None, Some, OnOk};
+    ghost use Rattle.std.specs.Prelude.{◌≡◌, ◌++◌, ◌∷◌, [], ◌-◌, ◌<◌, ◌≤◌, length, replicate, None, Some, OnOk};
     ghost use Rattle.mapparts.specs.Limits.{max_pools};
     ghost use Rattle.pgtable.specs.Patches.{patches_of};
 
@@ -37,12 +37,12 @@ impl GroupPatches {
         }
     }
 
-    /// One pool more, behind the others, that gets no other sets.
-    fn skip(&mut self)
-        requires { length (patches_of self.old) < max_pools }
-        ensures { patches_of self.new ≡ patches_of self.old ++ None ∷ [] }
+    /// More pools, behind the others, that get no other sets: until there are so many.
+    pub fn skip_to(&mut self, count: usize)
+        requires { length (patches_of self.old) ≤ count }
+        ensures { patches_of self.new ≡ patches_of self.old ++ replicate (count - length (patches_of self.old)) None }
     {
-        self.count += 1;
+        self.count = count;
     }
 
     /// One pool more, behind the others, that gets other sets; or `Memory` (30).
@@ -64,7 +64,7 @@ impl GroupPatches {
         match patch {
             Some(patch) => self.put(patch),
             None => {
-                self.skip();
+                self.skip_to(self.count + 1);
                 Ok(())
             }
         }

@@ -3,11 +3,13 @@
 //! the change can place otherwise.
 //!
 //! - `table`, `pool_table`: the table of a map and what it shows, and the part of one pool
-//! - `rooms`: where the groups of a large pool are placed side by side, in threads
+//! - `rooms`, `shares`: where the groups of a large pool are placed side by side, in threads: all of them, or those that a
+//!   change names
 //! - `mapped`, `shown`: mapped sets as they are stored, and as callers see them
 //! - `patch`, `group_patches`, `prepare`, `install`: what a change makes of a table, how it is found, and how it is put
 //!   in
 //! - `candidates`, `concerned`: the groups whose exceptions a change can concern, and those of a pool that it does
+//! - `named`: the pools in which such groups stand, one after another
 //! - `update`, `sets`: a change with the source of the sets after it, and these sets
 //! - `table_patch`: what a change makes of the tables of all pools
 #![tactic(auto)]
@@ -17,11 +19,13 @@ mod concerned;
 mod group_patches;
 mod install;
 mod mapped;
+mod named;
 pub mod patch;
 pub mod pool_table;
 mod prepare;
 pub mod rooms;
 mod sets;
+mod shares;
 mod shown;
 pub mod table;
 mod table_patch;

@@ -2,12 +2,10 @@
 
 ghost use Rattle.std.specs.Prelude.{◌≡◌, Some, IfOk, OnOk};
 ghost use Rattle.osdmap.specs.Maps.{pool_at};
-ghost use Rattle.pgtable.specs.Tables.{pool_table, RunsMore};
+ghost use Rattle.pgtable.specs.Tables.{pool_table};
 
-use crate::mapped::all_mapped_sets;
 use crate::rooms::Rooms;
 use crate::shown::places_in;
-use crush::Work;
 use grouptable::GroupTable;
 use keylist::Keyed;
 use maptypes::{Pg, Pool, Short};
@@ -31,28 +29,11 @@ impl PoolTable {
     ghost use Rattle.osdmap.specs.Maps.{ClusterMap, pool_at};
     ghost use Rattle.osdmap.specs.Placement.{mapped_set};
     ghost use Rattle.pgtable.specs.Rooms.{RunMore};
-    ghost use Rattle.pgtable.specs.Tables.{pool_table, groups_on, RunsMore};
-
-    /// The mapped sets of the groups of a pool of a map, by a run of the pool's rule for each; or `Memory` (30).
-    pub(crate) fn of(
-        alloc: Global,
-        map: &OsdMap,
-        pool: Pool,
-        work: &mut Work,
-    ) -> Result<PoolTable, Memory>
-        requires { pool_at map.now.map.pools pool.id ≡ Some pool }
-        ensures table { IfOk result (λ t. t ≡ pool_table map.now.map pool) }
-        ensures runs { OnOk result (RunsMore pool.pg_num work.old work.new) }
-    {
-        pool.is_within_limits();
-        let sets = all_mapped_sets(alloc, map, &pool, work)?;
-        let groups = GroupTable::of(alloc, sets)?;
-        Ok(PoolTable { pool, groups })
-    }
+    ghost use Rattle.pgtable.specs.Tables.{pool_table, groups_on};
 
     /// The mapped sets of the groups of a pool of a map, by a run of the pool's rule for each, in these rooms; or
     /// `Memory` (30).
-    pub(crate) fn of_rooms<R: Threads + Sync>(
+    pub(crate) fn of<R: Threads + Sync>(
         rt: &R,
         alloc: Global,
         map: &OsdMap,

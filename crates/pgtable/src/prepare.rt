@@ -8,11 +8,11 @@ use crate::patch::Patch;
 use crate::rooms::Rooms;
 use crate::table::PgTable;
 use crate::update::Update;
-use crush::Work;
 use maptypes::Change;
 use osdmap::OsdMap;
 use refusal::Memory;
 use std::alloc::Global;
+use std::thread::Threads;
 
 /// Whether a list has no entries.
 fn is_empty<T>(entries: &[T]) -> bool
@@ -59,7 +59,7 @@ impl PgTable {
     ghost use Rattle.osdmap.specs.Evals.{evals_of};
     ghost use Rattle.pgtable.specs.After.{IsPatchBy};
     ghost use Rattle.pgtable.specs.Rooms.{RunMore};
-    ghost use Rattle.pgtable.specs.Tables.{IsTableOf, RunsMore};
+    ghost use Rattle.pgtable.specs.Tables.{IsTableOf};
 
     /// Which OSDs are up after a change; or `Memory` (30).
     fn ups_after(&self, alloc: Global, change: &Change) -> Result<Vec<bool>, Memory>
@@ -75,13 +75,18 @@ impl PgTable {
 
     /// The patch that makes of the table the one of the map after a change; or `Memory` (30).
     #[inline(always)]
-    fn make_patch(&self, alloc: Global, update: &Update, work: &mut Work) -> Result<Patch, Memory>
+    fn make_patch<R: AllocGlobal + Threads + Sync>(
+        &self,
+        rt: &R,
+        update: &Update,
+        rooms: &mut Rooms,
+    ) -> Result<Patch, Memory>
         requires { IsTableOf self.now update.now.before.now.map }
-        ensures { IfOk result (IsPatchBy update.now self.now work.old work.new) }
+        ensures { IfOk result (IsPatchBy update.now self.now rooms.old rooms.new) }
     {
         update.holds();
-        let tables = self.patch_tables(alloc, update, work)?;
-        let up = self.ups_after(alloc, update.change)?;
+        let tables = self.patch_tables(rt, update, rooms)?;
+        let up = self.ups_after(rt.alloc(), update.change)?;
         Ok(Patch {
             tables: tables.tables,
             up,
@@ -89,41 +94,16 @@ impl PgTable {
         })
     }
 
-    /// What [`PgTable::prepare`] makes, all in one room.
-    fn prepare_in_one(
-        &self,
-        alloc: Global,
-        map: &OsdMap,
-        change: &Change,
-        work: &mut Work,
-    ) -> Result<Patch, Memory>
-        requires table { IsTableOf self.now map.now.map }
-        requires lawful { change_fault map.now.map change.now ≡ None }
-        requires epoch { map.now.map.epoch + 1 < 2 ^ 64 }
-        ensures leads { IfOk result (LeadsTo (changed_map map.now.map change.now) self.now) }
-        ensures counted { IfOk result (λ p. p.evals ≡ evals_of (changed_map map.now.map change.now) change.now) }
-        ensures runs { IfOk result (λ p. RunsMore p.evals work.old work.new) }
-    {
-        if leaves_raw_sets(change) {
-            let update = Update::new(alloc, map, change, map, false)?;
-            let patch = self.make_patch(alloc, &update, work)?;
-            return Ok(patch);
-        }
-        let after = map.after(alloc, change)?;
-        let update = Update::new(alloc, map, change, &after, true)?;
-        let patch = self.make_patch(alloc, &update, work)?;
-        Ok(patch)
-    }
-
     /// All that a change makes of the table of a map that does not refuse it. It tells the evaluations of the change,
-    /// and `rooms` count a rule run for each of them, and no other.
+    /// and `rooms` count a rule run for each of them, and no other. Where they are many, the rooms run them side by side,
+    /// in threads.
     ///
     /// # Errors
     ///
     /// `Memory` (30) where there is no memory for it. `rooms` may then count some of the runs.
-    pub fn prepare(
+    pub fn prepare<R: AllocGlobal + Threads + Sync>(
         &self,
-        alloc: Global,
+        rt: &R,
         map: &OsdMap,
         change: &Change,
         rooms: &mut Rooms,
@@ -135,6 +115,15 @@ impl PgTable {
         ensures counted { IfOk result (λ p. p.evals ≡ evals_of (changed_map map.now.map change.now) change.now) }
         ensures runs { IfOk result (λ p. RunMore p.evals rooms.old rooms.new) }
     {
-        self.prepare_in_one(alloc, map, change, &mut rooms.rooms[0].work)
+        let alloc = rt.alloc();
+        if leaves_raw_sets(change) {
+            let update = Update::new(alloc, map, change, map, false)?;
+            let patch = self.make_patch(rt, &update, rooms)?;
+            return Ok(patch);
+        }
+        let after = map.after(alloc, change)?;
+        let update = Update::new(alloc, map, change, &after, true)?;
+        let patch = self.make_patch(rt, &update, rooms)?;
+        Ok(patch)
     }
 }

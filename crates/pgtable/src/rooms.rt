@@ -25,16 +25,18 @@ use std::thread::Threads;
 const MANY_GROUPS: u64 = 4_096;
 
 /// The groups of a smaller pool are placed in one room: their runs take some 4 ms, and starting threads 0.1.
-const LEAST_SHARED: u32 = 1_024;
+pub(crate) const LEAST_SHARED: u32 = 1_024;
 
 /// So many rooms at most, however many processors there are.
 const MAX_ROOMS: usize = 16;
 
-/// A work, and the mapped sets of the last part of a pool that was placed with it, if there was memory for them.
+/// A work, and what was last made with it until it is taken, if there was memory for it: the mapped sets of a part of a
+/// pool, or other sets for a share of its groups.
 #[derive(Drop)]
 pub(crate) struct Room {
     pub work: Work,
     pub made: Option<Vec<OsdSet>>,
+    pub changes: Option<Vec<(u32, OsdSet)>>,
 }
 
 /// One room or more. Contracts see what their works have counted.
@@ -163,6 +165,23 @@ fn forget_parts(rooms: &mut [Room])
     }
 }
 
+/// What a room made of its share, which it then has no more.
+pub(crate) fn take_share(room: &mut Room) -> Option<Vec<(u32, OsdSet)>>
+    ensures share { result ≡ room.old.changes }
+    ensures work { room.new.work ≡ room.old.work }
+{
+    room.changes.take()
+}
+
+/// What is left of the shares is let go.
+pub(crate) fn forget_shares(rooms: &mut [Room])
+    ensures { map (λ room. room.work) rooms.new ≡ map (λ room. room.work) rooms.old }
+{
+    for i in 0..rooms.len() {
+        rooms[i].changes = None;
+    }
+}
+
 /// The mapped sets of all groups of a pool, a part of them in each room; or `Memory` (30).
 fn place_in_parts<R: Threads + Sync>(
     rt: &R,
@@ -193,6 +212,7 @@ fn new_rooms(alloc: Global, forest: &Forest, count: usize) -> Result<Vec<Room>, 
         rooms.push(Room {
             work: Work::new(alloc, forest)?,
             made: None,
+            changes: None,
         })?;
     }
     Ok(rooms)
@@ -228,8 +248,8 @@ impl Rooms {
     ghost use Rattle.pgtable.specs.Rooms.{runs_of, RunMore};
     ghost use Rattle.pgtable.specs.Tables.{pool_table};
 
-    /// Rooms for the groups of a map, whose works have counted no run: one for each processor where the groups are many,
-    /// else one.
+    /// Rooms for the groups of a map, whose works have counted no run: one for each processor where the groups are
+    /// many, else one.
     ///
     /// # Errors
     ///

@@ -12,6 +12,8 @@ use crate::candidates::{may_be_in, names_rise};
 use crate::concerned::concerned_numbers;
 use crate::mapped::{mapped_set, store_set};
 use crate::patch::PatchedGroups;
+use crate::rooms::{LEAST_SHARED, Rooms};
+use crate::shares::Shares;
 use crate::update::Update;
 use crush::Work;
 use grouptable::{GroupTable, OsdSet};
@@ -19,6 +21,7 @@ use keylist::{Keyed, entry_of, has};
 use maptypes::{Blank, Exception, Pg, Pool};
 use refusal::{Memory, Refusal};
 use std::alloc::Global;
+use std::thread::Threads;
 
 /// What a change makes of what is said of a group: what comes in its place, nothing where it goes, else what was said.
 fn said_after<'a, E: Blank>(
@@ -46,6 +49,7 @@ impl Update<'_> {
     ghost use Rattle.osdmap.specs.Placement.{mapped_set, RunsOnce};
     ghost use Rattle.pgtable.specs.After.{map_after, HasPool, is_touched_by, pool_evals};
     ghost use Rattle.pgtable.specs.Patches.{concerned_numbers, with_sets, LeadGroups};
+    ghost use Rattle.pgtable.specs.Rooms.{RunMore};
     ghost use Rattle.pgtable.specs.Tables.{pool_table, RunsMore};
 
     /// The mapped set of a group of a pool by the map after the change; or `Memory` (30).
@@ -112,9 +116,9 @@ impl Update<'_> {
         }
     }
 
-    /// Some groups of a pool with their mapped sets after the change, by one run of the pool's rule for each; or
-    /// `Memory` (30).
-    fn with_sets(
+    /// Some groups of a pool with their mapped sets after the change, by one run of the pool's rule for each, all in
+    /// one room; or `Memory` (30).
+    pub fn with_sets_in_one(
         &self,
         alloc: Global,
         pool: &Pool,
@@ -134,6 +138,50 @@ impl Update<'_> {
         Ok(changes)
     }
 
+    /// Some groups of a pool with their mapped sets after the change, by one run of the pool's rule for each; or
+    /// `Memory` (30).
+    fn with_sets<R: AllocGlobal + Threads + Sync>(
+        &self,
+        rt: &R,
+        pool: &Pool,
+        numbers: &[u32],
+        rooms: &mut Rooms,
+    ) -> Result<Vec<(u32, OsdSet)>, Memory>
+        requires there { HasPool self.now pool.now }
+        requires inside { All (λ number. number < pool.now.pg_num) numbers.now }
+        ensures changes { IfOk result (λ changes. changes.items ≡ with_sets (map_after self.now) pool.now numbers.now) }
+        ensures runs { OnOk result (RunMore (length numbers.now) rooms.old rooms.new) }
+    {
+        if rooms.rooms.len() < 2 || numbers.len() < LEAST_SHARED as usize {
+            self.with_sets_in_one(rt.alloc(), pool, numbers, &mut rooms.rooms[0].work)
+        } else {
+            self.with_sets_in_shares(rt, pool, numbers, rooms)
+        }
+    }
+
+    /// The same, a share of the groups in each room, side by side.
+    fn with_sets_in_shares<R: AllocGlobal + Threads + Sync>(
+        &self,
+        rt: &R,
+        pool: &Pool,
+        numbers: &[u32],
+        rooms: &mut Rooms,
+    ) -> Result<Vec<(u32, OsdSet)>, Memory>
+        requires there { HasPool self.now pool.now }
+        requires inside { All (λ number. number < pool.now.pg_num) numbers.now }
+        ensures changes { IfOk result (λ changes. changes.items ≡ with_sets (map_after self.now) pool.now numbers.now) }
+        ensures runs { OnOk result (RunMore (length numbers.now) rooms.old rooms.new) }
+    {
+        let size = numbers.len().div_ceil(rooms.rooms.len());
+        let shares = Shares {
+            update: self,
+            pool,
+            numbers,
+            size,
+        };
+        shares.changes(rt, rt.alloc(), &mut rooms.rooms)
+    }
+
     /// Whether the change may concern exceptions of groups of a pool.
     fn may_concern(&self, pool: &Pool) -> bool
         ensures { result ≡ false → [] ≡ concerned_numbers self.now.source.now.map self.now.change.now pool.now }
@@ -145,32 +193,31 @@ impl Update<'_> {
     /// Other sets for the groups of a pool whose exceptions the change concerns, where it does not touch the pool as a
     /// whole, by a run of the pool's rule for each of them; or `Memory` (30).
     #[inline(never)]
-    fn patch_concerned(
+    pub fn patch_concerned<R: AllocGlobal + Threads + Sync>(
         &self,
-        alloc: Global,
+        rt: &R,
         pool: &Pool,
         groups: &GroupTable,
-        work: &mut Work,
+        rooms: &mut Rooms,
     ) -> Result<PatchedGroups, Memory>
         requires groups { groups.now ≡ (pool_table self.now.before.now.map pool.now).groups }
         requires there { HasPool self.now pool.now }
         requires untouched { is_touched_by self.now pool.now ≡ false }
         ensures lead { IfOk result (λ r. LeadGroups (map_after self.now) pool.now groups.now r.patch) }
         ensures evals { IfOk result (λ r. r.evals ≡ pool_evals self.now pool.now) }
-        ensures runs { OnOk result (RunsMore (pool_evals self.now pool.now) work.old work.new) }
+        ensures runs { OnOk result (RunMore (pool_evals self.now pool.now) rooms.old rooms.new) }
     {
         self.holds();
-        let numbers = concerned_numbers(alloc, self.source, self.change, pool, &self.groups)?;
+        let numbers = concerned_numbers(rt.alloc(), self.source, self.change, pool, &self.groups)?;
         if numbers.is_empty() {
-            let _ = work.runs();
             return Ok(PatchedGroups {
                 patch: None,
                 evals: 0,
             });
         }
-        let changes = self.with_sets(alloc, pool, &numbers, work)?;
+        let changes = self.with_sets(rt, pool, &numbers, rooms)?;
         let evals = changes.len();
-        let patch = groups.prepare(alloc, changes)?;
+        let patch = groups.prepare(rt.alloc(), changes)?;
         Ok(PatchedGroups {
             patch: Some(patch),
             evals,
@@ -180,28 +227,27 @@ impl Update<'_> {
     /// Other sets for the groups of a pool whose exceptions the change concerns, where it does not touch the pool as a
     /// whole, by a run of the pool's rule for each of them; or `Memory` (30).
     #[inline(always)]
-    pub fn patch_groups(
+    pub fn patch_groups<R: AllocGlobal + Threads + Sync>(
         &self,
-        alloc: Global,
+        rt: &R,
         pool: &Pool,
         groups: &GroupTable,
-        work: &mut Work,
+        rooms: &mut Rooms,
     ) -> Result<PatchedGroups, Memory>
         requires groups { groups.now ≡ (pool_table self.now.before.now.map pool.now).groups }
         requires there { HasPool self.now pool.now }
         requires untouched { is_touched_by self.now pool.now ≡ false }
         ensures lead { IfOk result (λ r. LeadGroups (map_after self.now) pool.now groups.now r.patch) }
         ensures evals { IfOk result (λ r. r.evals ≡ pool_evals self.now pool.now) }
-        ensures runs { OnOk result (RunsMore (pool_evals self.now pool.now) work.old work.new) }
+        ensures runs { OnOk result (RunMore (pool_evals self.now pool.now) rooms.old rooms.new) }
     {
         self.holds();
         if !self.may_concern(pool) {
-            let _ = work.runs();
             return Ok(PatchedGroups {
                 patch: None,
                 evals: 0,
             });
         }
-        self.patch_concerned(alloc, pool, groups, work)
+        self.patch_concerned(rt, pool, groups, rooms)
     }
 }

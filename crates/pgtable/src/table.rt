@@ -68,7 +68,8 @@ impl PgTable {
     ghost use Rattle.osdmap.specs.Maps.{ClusterMap, pool_at};
     ghost use Rattle.pgtable.specs.Index.{up_at, index_of, count_of, count_in};
     ghost use Rattle.pgtable.specs.Rooms.{RunMore};
-    ghost use Rattle.pgtable.specs.Tables.{IsTableOf, pool_in, pool_table, tables_of, shown_at, shown_groups, shown_in};
+    ghost use Rattle.keylist.specs.Order.{IsRising};
+    ghost use Rattle.pgtable.specs.Tables.{IsTableOf, pool_in, pool_table, table_id, tables_of, shown_at, shown_groups, shown_in};
 
     /// The table of a map, by a run of a rule for each of its groups.
     ///
@@ -103,7 +104,7 @@ impl PgTable {
         map.holds_together();
         let mut pools = Vec::with_capacity(alloc, map.pools().len())?;
         for pool in map.pools() {
-            pools.push(PoolTable::of_rooms(rt, alloc, map, *pool, rooms)?)?;
+            pools.push(PoolTable::of(rt, alloc, map, *pool, rooms)?)?;
         }
         Ok(pools)
     }
@@ -112,6 +113,7 @@ impl PgTable {
     pub(crate) fn pools(&self) -> &[PoolTable]
         ensures pools { result.now ≡ self.now.pools }
         ensures few { length self.now.pools ≤ max_pools }
+        ensures rise { IsRising table_id self.now.pools }
     {
         &self.pools
     }

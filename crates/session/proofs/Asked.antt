@@ -24,11 +24,14 @@ use Rattle.monitor.specs.Members.{Monitored, TakesTurn, draws_of, draws_made}
 use Rattle.session.specs.declared.reply.Speaker.TheVariants.{Monitor}
 use Rattle.session.specs.Texts.{refusal_text, line_of}
 use Rattle.session.specs.Replies.{answer_text, changed_text, planned_text}
-use Rattle.session.specs.Commands.{ask, command_in, question_in, task_in}
+use Rattle.session.specs.Commands.{ask, command_in, question_in, sets_in, task_in}
 use Rattle.session.specs.Transcripts.{TakesLine}
-use Rattle.session.specs.Answers.{Basis, Account, Asks, AddsOwn, DrawsFor, none_made, IsLineOf, Sight, IsAnswered, session_by}
+use Rattle.session.specs.Answers.{Basis, Account, Asks, AsksSets, AddsOwn, DrawsFor, none_made, IsLineOf, Sight, IsAnswered, session_by}
 use Rattle.session.specs.Sessions.{sight_by, sight_in}
+use Rattle.session.specs.declared.pool_sets.PoolSets.{PoolSets}
+use Rattle.session.specs.PoolSets.{FindsSets}
 use Rattle.session.proofs.Histories.{goes_on_same}
+use Rattle.session.proofs.PoolSets.{sets_unspent}
 use Rattle.session.proofs.Replies.{takes_line}
 
 -- an answer that is not 31
@@ -63,9 +66,25 @@ pub asks_refused : (basis : Basis) (before now : Account) (question : Question) 
 asks_refused basis before now question refusal on is spent same own =
     rw is (Err SeatSpent, ((on, inl refl), record { spent = λ e. spent; no_less = omega (arith, same); no_more = omega (arith, same) }, own), refl)
 
+-- what is found of the sets of a pool, in the map after a history to which its member has come, by one draw or none
+pub sets_there : (basis : Basis) (before now : Account) (pool : ℕ) (r : Result PoolSets Refusal) → GoesOn basis.first before.history now.history
+    → FindsSets (after basis.first now.history) pool r → before.draws ≤ now.draws → now.draws ≤ before.draws + 1 → now.own ≡ before.own
+    → AsksSets basis pool before now r
+sets_there basis before now pool r on finds no_less no_more own =
+    let unspent = sets_unspent (after basis.first now.history) pool r finds in
+    let draws : DrawsFor basis.draws before.draws now.draws r = record { spent = never_spent _ r unspent; no_less = no_less; no_more = no_more } in
+    ((on, inr finds), draws, none_noted basis.first.epoch before.own now.own r own)
+
+-- the same where the seat has made its draws
+pub sets_refused : (basis : Basis) (before now : Account) (pool : ℕ) (r : Result PoolSets Refusal) (refusal : Refusal) → r ≡ Err refusal
+    → GoesOn basis.first before.history now.history → refusal ≡ SeatSpent → before.draws ≡ basis.draws → now.draws ≡ before.draws → now.own ≡ before.own
+    → AsksSets basis pool before now r
+sets_refused basis before now pool r refusal is on seat spent same own =
+    rw (is, seat) ((on, inl refl), record { spent = λ e. spent; no_less = omega (arith, same); no_more = omega (arith, same) }, own)
+
 -- the line of a question is not empty
 pub some_line : (line : List ℕ) (question : Question) → command_in line ≡ Some (ask question) → 0 < length line
-unfolding command_in question_in task_in
+unfolding command_in question_in sets_in task_in
 some_line [] question e = absurd (none_some e)
   where
     none_some : None ≡ Some (ask question) → ⊥

@@ -8,7 +8,7 @@ use Rattle.session.specs.declared.error.SessionError.{SessionError}
 use Rattle.session.specs.declared.error.SessionError.TheVariants.{Write, Memory, Held, Read}
 use Rattle.session.specs.Commands.{is_newline, lines_in}
 use Rattle.session.specs.Transcripts.{Manner, IsTranscript, Stops, StopsFrom}
-use Rattle.session.specs.Readings.{IsPart, Passes, StopsAt, Halted, Stand, AnswersLines, AnswersAll, StopsTaking, StopsReading}
+use Rattle.session.specs.Readings.{IsUnended, Passes, StopsAt, Halted, Stand, AnswersLines, AnswersAll, StopsTaking, StopsReading}
 use Rattle.session.specs.Ends.{Halts}
 use Rattle.session.proofs.Transcribed.{transcript_more}
 use Rattle.session.proofs.Passing.{passes_none, halted_behind, halted_before, halted_short, halted_all, stops_behind, all_lines}
@@ -18,11 +18,11 @@ pub line_of_parts : (begun text end others : List ℕ) → text ≡ end ++ 10 �
 line_of_parts begun text end others is = ap (λ t. begun ++ t) is ∙ sym (append_assoc begun end (10 ∷ others))
 
 -- an empty text has no newline
-pub no_part : IsPart []
+pub no_part : IsUnended []
 no_part = All-from_get_or (λ c. is_newline c ≡ false) [] 0 (λ i lt. absurd (omega arith))
 
 -- a text with no newline behind another is one
-pub part_both : (a b : List ℕ) → IsPart a → IsPart b → IsPart (a ++ b)
+pub part_both : (a b : List ℕ) → IsUnended a → IsUnended b → IsUnended (a ++ b)
 part_both a b p q = All-append (λ c. is_newline c ≡ false) a b p q
 
 -- where memory is short for a line, it has not begun
@@ -107,7 +107,7 @@ passes_nothing m number first begun = subst (λ t. Passes m number first t [] nu
 
 module _ {S : Type 0} (m : Manner S) (known mid left : Option (List ℕ)) (next : ℕ) (first between last : S) (read put begun out : List ℕ) where
   -- how the session stops that took more of it
-  pub stops_reading : (e : SessionError) → Consumes known mid read → Passes m 1 first read put next between begun → IsPart begun
+  pub stops_reading : (e : SessionError) → Consumes known mid read → Passes m 1 first read put next between begun → IsUnended begun
       → StopsTaking m mid left e next between begun out last → StopsReading m known left e first (put ++ out) last
   stops_reading Write takes passed part (text, more, halted) = stops_at_all m Write known left first last (read ++ text) (put ++ out)
       (Consumes-trans known mid left read text takes more) (halted_on m Write 1 next first between last read text put begun out passed halted)

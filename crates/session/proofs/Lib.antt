@@ -3,6 +3,7 @@ mod Transcribed
 mod Replies
 mod Histories
 mod Told
+mod PoolSets
 mod Passing
 mod Asked
 mod Coming

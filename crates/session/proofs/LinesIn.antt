@@ -7,17 +7,17 @@ use Rattle.std.proofs.lemmas.List.Sums.{fails_before_first}
 use Rattle.std.proofs.lemmas.Bool.{eqb-true}
 use Rattle.std.specs.List.{position, position_or_len}
 use Rattle.session.specs.Commands.{is_newline, lines_in}
-use Rattle.session.specs.Readings.{IsPart}
+use Rattle.session.specs.Readings.{IsUnended}
 
 -- what a part and a newline make a line of
-pub lines_in-part : (part others : List ℕ) → IsPart part → lines_in (part ++ 10 ∷ others) ≡ part ∷ lines_in others
+pub lines_in-part : (part others : List ℕ) → IsUnended part → lines_in (part ++ 10 ∷ others) ≡ part ∷ lines_in others
 unfolding lines_in
 lines_in-part [] others none = refl
 lines_in-part (c ∷ cs) others none =
     rw (All-head (λ b. is_newline b ≡ false) c cs none, lines_in-part cs others (All-tail (λ b. is_newline b ≡ false) c cs none)) refl
 
 -- a part with nothing behind it is a line, where it is not empty
-pub lines_in-last : (part : List ℕ) → IsPart part → 0 < length part → lines_in part ≡ part ∷ []
+pub lines_in-last : (part : List ℕ) → IsUnended part → 0 < length part → lines_in part ≡ part ∷ []
 unfolding lines_in
 lines_in-last [] none some = absurd (omega arith)
 lines_in-last (c ∷ []) none some = rw (All-head (λ b. is_newline b ≡ false) c [] none) refl
@@ -25,13 +25,13 @@ lines_in-last (c ∷ d ∷ cs) none some =
     rw (All-head (λ b. is_newline b ≡ false) c (d ∷ cs) none, lines_in-last (d ∷ cs) (All-tail (λ b. is_newline b ≡ false) c (d ∷ cs) none) (omega arith)) refl
 
 -- no newline is found in a part alone
-pub part_none : (text : List ℕ) → position is_newline text ≡ None → IsPart text
+pub part_none : (text : List ℕ) → position is_newline text ≡ None → IsUnended text
 part_none text e =
     let past : length text ≤ position_or_len is_newline text = grind (arith, common_steps) in
     All-from_get_or (λ b. is_newline b ≡ false) text 0 (λ i lt. fails_before_first is_newline text i 0 (omega arith))
 
 -- before the first newline stands a part
-pub part_before : (text : List ℕ) (end : ℕ) → position is_newline text ≡ Some end → IsPart (take end text)
+pub part_before : (text : List ℕ) (end : ℕ) → position is_newline text ≡ Some end → IsUnended (take end text)
 part_before text end e =
     let (within, here, before) = position-Some is_newline text end 0 e in
     let long = length-take-le end text (omega arith) in

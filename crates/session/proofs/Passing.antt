@@ -5,7 +5,7 @@ use Rattle.session.specs.declared.error.SessionError.{SessionError}
 use Rattle.session.specs.declared.error.SessionError.TheVariants.{Write, Memory, Held, Read}
 use Rattle.session.specs.Commands.{lines_in}
 use Rattle.session.specs.Transcripts.{Manner, TakesLine, IsTranscript, Breaks, StopsFrom}
-use Rattle.session.specs.Readings.{IsPart, Cuts, Passes, StopsAt, Halted, Stand, AnswersLine, AnswersLines, AnswersAll}
+use Rattle.session.specs.Readings.{IsUnended, Cuts, Passes, StopsAt, Halted, Stand, AnswersLine, AnswersLines, AnswersAll}
 use Rattle.std.specs.Result.{IsErrAnd}
 use Rattle.session.specs.Ends.{Halts, IsOut}
 use Rattle.session.proofs.LinesIn.{lines_in-part, lines_in-last, lines_in-none}
@@ -17,7 +17,7 @@ pub passes_none : {S : Type 0} (m : Manner S) (number : ℕ) (first : S) (text :
 passes_none m number first text = ([], (λ more. refl), transcript_none m number first, omega arith)
 
 -- the first line of a text is answered
-pub passes_line : {S : Type 0} (m : Manner S) (number : ℕ) (first last : S) (line others answer : List ℕ) → IsPart line
+pub passes_line : {S : Type 0} (m : Manner S) (number : ℕ) (first last : S) (line others answer : List ℕ) → IsUnended line
     → TakesLine m number first line answer last → Passes m number first (line ++ 10 ∷ others) answer (number + 1) last others
 passes_line m number first last line others answer part taken = (
   line ∷ [],
@@ -102,7 +102,7 @@ stops_line m e number first last lines out halts =
     ([], lines, [], first, refl, transcript_none m number first, subst (λ n. Halts m e n first lines [] out last) same halts)
 
 -- a session stops at the first line that ends in a text
-pub halted_line : {S : Type 0} (m : Manner S) (e : SessionError) (number : ℕ) (first last : S) (line others part : List ℕ) → IsPart line
+pub halted_line : {S : Type 0} (m : Manner S) (e : SessionError) (number : ℕ) (first last : S) (line others part : List ℕ) → IsUnended line
     → StopsAt m e number first line part last → Halted m e number first (line ++ 10 ∷ others) part last
 halted_line m e number first last line others part none halts rest =
     subst (λ ls. StopsFrom m (Halts m e) number first ls part last)
@@ -142,7 +142,7 @@ halted_short m number first text more = stops_line m Memory number first first (
 
 -- the last line is all that is left
 pub last_line : {S : Type 0} (m : Manner S) (from to : Stand S) (line before after : List ℕ) (r : Result Unit SessionError)
-    → IsPart line → 0 < length line → AnswersLine m from to line before after r → AnswersAll m from to line before after r
+    → IsUnended line → 0 < length line → AnswersLine m from to line before after r → AnswersAll m from to line before after r
 last_line m from to line before after (Ok done) part some (answer, taken, out) =
     (answer, rw (lines_in-last line part some) (transcript_one m from.number from.seen to.seen line answer taken), out)
 last_line m from to line before after (Err e) part some (out, halts, same) =

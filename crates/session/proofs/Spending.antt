@@ -4,7 +4,7 @@ use Rattle.maptypes.specs.declared.change.ChangeParts.{ChangeParts}
 use Rattle.refusal.specs.declared.refused.Refusal.{Refusal}
 use Rattle.state.specs.declared.state.Commit.{Commit}
 use Rattle.state.specs.declared.balancing.Balance.{Balance}
-use Rattle.session.specs.Commands.{Beside, Command, ask, change, apply, wait, balance, follower, command_by}
+use Rattle.session.specs.Commands.{Beside, Command, ask, ups, change, apply, wait, balance, follower, fups, command_by}
 use Rattle.session.specs.Transcripts.{IsTranscript, TakesLine}
 use Rattle.session.specs.Answers.{Basis, Account, Sight, Changes, Applies, Plans, Does, session_by}
 
@@ -36,12 +36,14 @@ command_draws : (basis : Basis) (before now : Sight) (command : Option Command) 
     → now.member.draws ≤ before.member.draws + 1
 command_draws basis before now None line (is, same) = omega (arith, ap (λ (s : Sight). s.member.draws) same)
 command_draws basis before now (Some (ask question)) line ((r, (answers, draws, own), is), same) = draws.no_more
+command_draws basis before now (Some (ups pool)) line ((r, (answers, draws, own), is), same) = draws.no_more
 command_draws basis before now (Some (change text)) line ((r, answers, is), same) = change_draws basis text before.member now.member r answers
 command_draws basis before now (Some (apply text)) line ((r, answers, is), same) = apply_draws basis text before.member now.member r answers
 command_draws basis before now (Some (wait epoch)) line ((r, (answers, draws, own), is), same) = draws.no_more
 command_draws basis before now (Some (balance pool limit beside)) line ((r, answers, is), same) =
     plan_draws basis pool limit beside before.member now.member r answers
 command_draws basis before now (Some (follower t)) line (told, same, begins) = none_drawn before.member now.member same
+command_draws basis before now (Some (fups pool)) line (told, same, begins) = none_drawn before.member now.member same
 
 module _ (basis : Basis) (lets : ℕ → Bool → Type 0) where
   -- so does a line

@@ -6,10 +6,10 @@ use Rattle.maptypes.specs.Incrementals.{Step}
 use Rattle.refusal.specs.declared.refused.Refusal.{Refusal}
 use Rattle.refusal.specs.declared.refused.Refusal.TheVariants.{BadCommand, SeatSpent, AwaitSpent, Memory as OutOfMemory}
 use Rattle.refusal.specs.Outcomes.{Makes}
-use Rattle.osdmap.specs.Maps.{ClusterMap}
+use Rattle.osdmap.specs.Maps.{ClusterMap, pool_at}
 use Rattle.osdmap.specs.Changes.{after, change_fault}
 use Rattle.osdmap.specs.Placement.{group_fault}
-use Rattle.cleanup.specs.Kept.{remnant_at}
+use Rattle.upmap_cleanup.specs.Kept.{remnant_at}
 use Rattle.epochlog.specs.Epochs.{OneBegins}
 use Rattle.mapparts.specs.declared.profile.Profile.{Profile}
 use Rattle.mapparts.specs.Profiles.{is_stock}
@@ -28,10 +28,12 @@ use Rattle.monitor.specs.Making.{HasMade, planned_epoch}
 use Rattle.monitor.specs.Balances.{AnswersBalance}
 use Rattle.session.specs.declared.command.Task.{Task}
 use Rattle.session.specs.declared.command.Task.TheVariants as task
+use Rattle.session.specs.declared.pool_sets.PoolSets.{PoolSets}
 use Rattle.session.specs.declared.reply.Speaker.TheVariants as speaker
-use Rattle.session.specs.Commands.{Beside, Command, ask, change, apply, wait, balance, follower, command_by}
+use Rattle.session.specs.Commands.{Beside, Command, ask, ups, change, apply, wait, balance, follower, fups, command_by}
 use Rattle.session.specs.Transcripts.{Manner}
-use Rattle.session.specs.Replies.{answer_text, changed_text, planned_text}
+use Rattle.session.specs.PoolSets.{FindsSets, FindsSetsThere, RunsForSets}
+use Rattle.session.specs.Replies.{answer_text, sets_text, changed_text, planned_text}
 use Rattle.session.specs.Texts.{epoch_text, ok_text, moved_text, refusal_text, line_of}
 
 -- what the answers of a session go by: the first map, how many changes the journal has room for, how often the seat of
@@ -90,6 +92,11 @@ none_made x = None
 abbrev pub Asks : Basis → Question → Account → Account → Result Answer Refusal → Type 0
 Asks basis question before now r =
     InTurn basis before now (λ b n. Looks basis.first b n (λ m. Finds m question)) none_made r
+
+-- what a question about the sets of a pool answers
+abbrev pub AsksSets : Basis → ℕ → Account → Account → Result PoolSets Refusal → Type 0
+AsksSets basis pool before now r =
+    InTurn basis before now (λ b n. Looks basis.first b n (λ m. FindsSets m pool)) none_made r
 
 -- what a change answers, the new epoch and the evaluations: its text is read, where `Memory` may come in place of any
 -- answer; then what it states is committed; a text that is refused changes nothing, and nothing is looked at
@@ -189,6 +196,14 @@ Tells first before now (task.Up pg) r = TellsByRun before now r × FindsThere (a
 Tells first before now task.Dump r = TellsIdle before now × FindsThere (after first now.history) Dump r
 Tells first before now (task.Kept pg) r = TellsByRun before now r × FindsKept (after first now.history) pg r
 
+-- what a follower answers of the sets of a pool: what its map says, after the same history as before, and one run for
+-- each group; or for some of them where memory runs out
+abbrev pub TellsSets : ClusterMap → Track → Track → ℕ → Result PoolSets Refusal → Type 0
+TellsSets first before now pool r =
+    (now.history ≡ before.history)
+    × RunsForSets (pool_at (after first now.history).pools pool) before.runs now.runs r
+    × FindsSetsThere (after first now.history) pool r
+
 -- ---- lines
 
 -- what a command answers to a session, and what it has seen then: of the member's history and the follower's one begins
@@ -197,6 +212,9 @@ abbrev pub Does : Basis → Sight → Option Command → List ℕ → Sight → 
 Does basis before None line now = (line ≡ refusal_text BadCommand) × (now ≡ before)
 Does basis before (Some (ask question)) line now =
     IsLineOf (Asks basis question before.member now.member) (answer_text speaker.Monitor) line
+    × (now.follower ≡ before.follower)
+Does basis before (Some (ups pool)) line now =
+    IsLineOf (AsksSets basis pool before.member now.member) (sets_text speaker.Monitor) line
     × (now.follower ≡ before.follower)
 Does basis before (Some (change text)) line now =
     IsLineOf (Changes basis text before.member now.member) changed_text line × (now.follower ≡ before.follower)
@@ -210,6 +228,9 @@ Does basis before (Some (balance pool limit beside)) line now =
     × (now.follower ≡ before.follower)
 Does basis before (Some (follower t)) line now =
     IsLineOf (Tells basis.first before.follower now.follower t) (answer_text speaker.Follower) line
+    × (now.member ≡ before.member) × OneBegins now.follower.history now.member.history
+Does basis before (Some (fups pool)) line now =
+    IsLineOf (TellsSets basis.first before.follower now.follower pool) (sets_text speaker.Follower) line
     × (now.member ≡ before.member) × OneBegins now.follower.history now.member.history
 
 -- a history stays, or is longer by one incremental, whose epoch an answer tells

@@ -11,7 +11,7 @@ use Rattle.maptypes.specs.GroupText.{group_in}
 use Rattle.monitor.specs.declared.question.Question.{Question}
 use Rattle.monitor.specs.declared.question.Question.TheVariants.{Up, Count, Groups, Epoch, Dump}
 use Rattle.session.specs.declared.command.Command.{Command as Read}
-use Rattle.session.specs.declared.command.Command.TheVariants.{Ask, Change, Apply, Await, Balance, Follower}
+use Rattle.session.specs.declared.command.Command.TheVariants.{Ask, Ups, Change, Apply, Await, Balance, Follower, FollowerUps}
 use Rattle.session.specs.declared.command.Beside.{Beside as ReadBeside}
 use Rattle.session.specs.declared.parse.Words.{Words as ReadWords}
 use Rattle.session.specs.declared.command.Task.{Task}
@@ -74,15 +74,19 @@ pub record Beside : Type 0 where
   pub apart : ℕ
   pub loads : List ℕ
 
--- what a line asks for: a question to the monitor; a change that a JSON text states, with its base or without; to wait until the epoch is at least a number; to balance a pool, by so many moves
--- at most, with what is to be counted beside it; or a task of the session's follower
+-- what a line asks for: a question to the monitor; the up sets of all groups of a pool; a change that a JSON text
+-- states, with its base or without; to wait until the epoch is at least a number; to balance a pool, by so many moves at
+-- most, with what is to be counted beside it; a task of the session's follower; or the sets of a pool's groups from the
+-- follower
 pub data Command : Type 0 where
   ask : Question → Command
+  ups : ℕ → Command
   change : List ℕ → Command
   apply : List ℕ → Command
   wait : ℕ → Command
   balance : ℕ → ℕ → Option Beside → Command
   follower : Task → Command
+  fups : ℕ → Command
 
 -- what is to be counted beside a pool, as it was read
 abbrev pub beside_of : ReadBeside → Beside
@@ -91,11 +95,13 @@ beside_of b = record { apart = b.apart; loads = b.loads.now }
 -- the command that was read of a line
 abbrev pub command_of : Read → Command
 command_of (Ask question) = ask question
+command_of (Ups pool) = ups pool
 command_of (Change text) = change text.now
 command_of (Apply text) = apply text.now
 command_of (Await epoch) = wait epoch
 command_of (Balance plan) = balance plan.pool plan.limit (option_map beside_of plan.beside)
 command_of (Follower t) = follower t
+command_of (FollowerUps pool) = fups pool
 
 -- what stands behind a word and its space
 abbrev pub behind : List ℕ → List ℕ → Option (List ℕ)
@@ -146,7 +152,15 @@ plan_in text =
     option_and_then (λ words. option_and_then (λ pool. plan_for pool words.rest) (pool_number words.first))
     (two_words text)
 
--- the command of a line: a question, `change ` or `apply ` and a text, `await ` and an epoch, `balance ` and a plan, or a task; none where it is none of them
+-- what a line asks of the sets of a pool: `ups ` or `fups ` and a pool
+unfoldable pub sets_in : List ℕ → Option Command
+sets_in line = elim (behind (codes "ups ") line) [
+  | Some pool ↦ option_map ups (pool_number pool)
+  | None ↦ option_and_then (λ pool. option_map fups (pool_number pool)) (behind (codes "fups ") line)
+]
+
+-- the command of a line: a question, `change ` or `apply ` and a text, `await ` and an epoch, `balance ` and a plan,
+-- the sets of a pool, or a task; none where it is none of them
 unfoldable pub command_in : List ℕ → Option Command
 command_in line = elim (question_in line) [
   | Some question ↦ Some (ask question)
@@ -158,7 +172,10 @@ command_in line = elim (question_in line) [
         | Some epoch ↦ option_map wait (epoch_in epoch)
         | None ↦ elim (behind (codes "balance ") line) [
           | Some plan ↦ plan_in plan
-          | None ↦ option_map follower (task_in line)
+          | None ↦ elim (sets_in line) [
+            | Some command ↦ Some command
+            | None ↦ option_map follower (task_in line)
+          ]
         ]
       ]
     ]
@@ -172,15 +189,18 @@ is_task_in profile (task.Up pg) = true
 is_task_in profile task.Dump = true
 is_task_in profile (task.Kept pg) = is_stock profile
 
--- the command, where a script of maps of this profile may have it: a script of plain maps has no `apply`
+-- the command, where a script of maps of this profile may have it: a script of plain maps has no `apply`, no `ups` and
+-- no `fups`
 abbrev pub known_in : Profile → Option Command → Option Command
 known_in profile None = None
 known_in profile (Some (ask question)) = Some (ask question)
+known_in profile (Some (ups pool)) = if is_stock profile then Some (ups pool) else None
 known_in profile (Some (change text)) = Some (change text)
 known_in profile (Some (apply text)) = if is_stock profile then Some (apply text) else None
 known_in profile (Some (wait epoch)) = Some (wait epoch)
 known_in profile (Some (balance pool limit beside)) = Some (balance pool limit beside)
 known_in profile (Some (follower t)) = if is_task_in profile t then Some (follower t) else None
+known_in profile (Some (fups pool)) = if is_stock profile then Some (fups pool) else None
 
 -- the command of a line in such a script
 abbrev pub command_by : Profile → List ℕ → Option Command

@@ -2,6 +2,7 @@ pub mod Sinks
 pub mod Buffers
 pub mod Commands
 pub mod Texts
+pub mod PoolSets
 pub mod Replies
 pub mod Transcripts
 pub mod Answers

@@ -9,12 +9,12 @@ use Rattle.session.specs.Transcripts.{Manner, TakesLine, IsTranscript, StopsFrom
 use Rattle.session.specs.Ends.{Halts}
 
 -- a text with no newline
-abbrev pub IsPart : List ℕ → Type 0
-IsPart text = All (λ c. is_newline c ≡ false) text
+abbrev pub IsUnended : List ℕ → Type 0
+IsUnended text = All (λ c. is_newline c ≡ false) text
 
 -- a line with no newline asks this
 abbrev pub IsAsking : List ℕ → Question → Type 0
-IsAsking line question = IsPart line × (command_in line ≡ Some (ask question))
+IsAsking line question = IsUnended line × (command_in line ≡ Some (ask question))
 
 -- a text whose first line is this, and what stands behind its newline
 abbrev pub whole_text : List ℕ → List ℕ → List ℕ
@@ -112,6 +112,6 @@ abbrev pub StopsReading : {S : Type 0} → Manner S → Option (List ℕ) → Op
     → S → Type 0
 StopsReading m known left Read first out last =
     (read : List ℕ) × (number : ℕ) × (begun : List ℕ) × Consumes known left read
-    × Passes m 1 first read out number last begun × IsPart begun
+    × Passes m 1 first read out number last begun × IsUnended begun
 StopsReading m known left error first out last =
     (all : List ℕ) × IfSome known (λ xs. xs ≡ all) × Stops m (Halts m error) first (lines_in all) out last

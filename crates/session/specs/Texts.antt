@@ -2,14 +2,14 @@
 use Rattle.std.specs.Prelude.{ℕ, List, [], ◌∷◌, ◌++◌, codes, Option, Result, Ok, Err}
 use Rattle.std.specs.Fmt.{decimal}
 use Rattle.maptypes.specs.declared.pg.Pg.{Pg}
-use Rattle.cleanup.specs.declared.kept.Remnant.{Remnant}
-use Rattle.cleanup.specs.declared.kept.Remnant.TheVariants.{All, Fewer, Gone}
+use Rattle.upmap_cleanup.specs.declared.kept.Remnant.{Remnant}
+use Rattle.upmap_cleanup.specs.declared.kept.Remnant.TheVariants.{All, Fewer, Gone}
 use Rattle.refusal.specs.declared.refused.Refusal.{Refusal}
 use Rattle.refusal.specs.declared.refused.Refusal.TheVariants.{BadJson, BadField, BadLimit, BadForest, BadRule, BadPool, BadOsd, BadException, StaleEpoch, UnknownOsd, BadWeight, UnknownPool, PoolExists, UnknownGroup, BadNewException, DuplicatePart, JournalFull, BalanceRule, Memory, SeatSpent, NotSealed, BadCommand, AwaitSpent, NotStored}
 use Rattle.refusal.specs.Refusals.{number_of, name_of}
 use Rattle.maptypes.specs.GroupText.{group_text}
 use Rattle.maptypes.specs.Sets.{primary_of}
-use Rattle.maptypes.specs.SetText.{osd_text, place_text, list_text}
+use Rattle.maptypes.specs.SetText.{osd_text, place_text, list_text, set_text}
 
 -- what ends each answer
 abbrev pub newline : List ℕ
@@ -25,6 +25,14 @@ up_text word epoch pg places =
     word ++ codes " " ++ decimal epoch ++ codes " " ++ group_text pg
     ++ codes " [" ++ list_text place_text places ++ codes "] "
     ++ primary_text (primary_of places) ++ newline
+
+-- a set as `up` tells it, behind a space
+abbrev pub shown_text : List (Option ℕ) → List ℕ
+shown_text places = codes " " ++ set_text places
+
+-- `WORD EPOCH POOL SETS`, each set behind a space
+unfoldable pub ups_text : List ℕ → ℕ → ℕ → List ℕ → List ℕ
+ups_text word epoch pool sets = word ++ codes " " ++ decimal epoch ++ codes " " ++ decimal pool ++ sets ++ newline
 
 -- `count EPOCH OSD N`
 unfoldable pub count_text : ℕ → ℕ → ℕ → List ℕ

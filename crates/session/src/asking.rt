@@ -1,30 +1,45 @@
 //! What a session asks of its monitor: the command of a line is done.
 
-use crate::command::{Beside, Command, Plan};
+use crate::command::{Beside, Command, Plan, Task};
 use crate::desk::Desk;
-use crate::following::follow;
+use crate::following::{follow, follow_sets};
+use crate::pool_sets::{PoolSets, sets_in};
 use crate::reply::{Reply, Speaker};
 use crate::watch::watch;
 use balancer::Request;
 use balancer::limits::LEAST_APART;
-use keeping::Keeps;
+use epochlog::Keeps;
 use mapjson::{read_change, read_loads, read_unbased};
 use monitor::{Answer, Balance, Commit, Follower, Member};
 use refusal::Refusal;
 use std::sync::Wait;
+use std::thread::Threads;
 
-impl<'a, R: Wait, G, K: Keeps + Drop> Desk<'a, R, G, K> {
-    ghost use Rattle.std.specs.Prelude.{◌≤◌, codes, length};
+impl<'a, R: Wait + Threads + Sync, G, K: Keeps + Drop> Desk<'a, R, G, K> {
+    ghost use Rattle.std.specs.Prelude.{◌≤◌, Some, codes, length};
     ghost use Rattle.std.specs.Option.{option_map};
     ghost use Rattle.refusal.specs.Outcomes.{Makes};
     ghost use Rattle.mapjson.specs.LoadTexts.{StatesLoads};
     ghost use Rattle.balancer.specs.Shares.{aim_of};
     ghost use Rattle.monitor.specs.Members.{IsMemberOf};
+    ghost use Rattle.session.specs.declared.reply.Speaker.TheVariants.{Monitor};
     ghost use Rattle.session.specs.Texts.{line_of, epoch_text};
     ghost use Rattle.session.specs.Commands.{command_of, beside_of};
-    ghost use Rattle.session.specs.Replies.{changed_text, planned_text, reply_text};
-    ghost use Rattle.session.specs.Answers.{Changes, Applies, beside_fault, Plans, PlansBeside, PlansFor, Awaits};
+    ghost use Rattle.session.specs.Replies.{sets_text, changed_text, planned_text, reply_text};
+    ghost use Rattle.session.specs.Answers.{AsksSets, Changes, Applies, beside_fault, Plans, PlansBeside, PlansFor, Awaits};
     ghost use Rattle.session.specs.Sessions.{IsFollowerOf, basis_of, AnswersMember, IsDone};
+
+    /// The up sets of all groups of a pool, in a turn at the lock, which members share.
+    fn ups(&self, member: &mut Member, pool: u32) -> Result<PoolSets, Refusal>
+        requires { IsMemberOf self.now.monitor.now member.old }
+        ensures { AnswersMember self.now.monitor.now member.old member.new
+            (AsksSets (basis_of self.now.monitor.now) pool) (sets_text Monitor) result }
+    {
+        let shared = self.monitor.share(self.rt, member)?;
+        let found = sets_in(self.alloc, self.monitor.shown(&shared, member), pool);
+        self.monitor.give_back(shared, member);
+        found
+    }
 
     /// Commits the change that a text states: the new epoch, and how many groups' placement was worked out anew.
     fn change(&self, member: &mut Member, text: &[u8]) -> Result<Commit, Refusal>
@@ -128,6 +143,40 @@ impl<'a, R: Wait, G, K: Keeps + Drop> Desk<'a, R, G, K> {
         }
     }
 
+    /// What the session's follower answers to a task.
+    fn follow(
+        &self,
+        member: &mut Member,
+        follower: &mut Option<Follower>,
+        task: Task,
+    ) -> Result<Reply, Refusal>
+        requires member { IsMemberOf self.now.monitor.now member.old }
+        requires follower { IsFollowerOf self.now.monitor.now follower.old }
+        ensures { IsDone self.now.monitor.now member.old member.new follower.old follower.new
+            (Some (command_of (Command.Follower task))) (line_of reply_text result) }
+    {
+        let answer = follow(self.alloc, self.monitor, member, follower, task)?;
+        let by = Speaker::Follower;
+        Ok(Reply::Found { by, answer })
+    }
+
+    /// The up sets of all groups of a pool in the map of the session's follower.
+    fn follower_ups(
+        &self,
+        member: &mut Member,
+        follower: &mut Option<Follower>,
+        pool: u32,
+    ) -> Result<Reply, Refusal>
+        requires member { IsMemberOf self.now.monitor.now member.old }
+        requires follower { IsFollowerOf self.now.monitor.now follower.old }
+        ensures { IsDone self.now.monitor.now member.old member.new follower.old follower.new
+            (Some (command_of (Command.FollowerUps pool))) (line_of reply_text result) }
+    {
+        let sets = follow_sets(self.alloc, self.monitor, member, follower, pool)?;
+        let by = Speaker::Follower;
+        Ok(Reply::Sets { by, sets })
+    }
+
     /// Does a command; `None` is a line that is no command.
     pub(crate) fn do_command(
         &self,
@@ -144,8 +193,12 @@ impl<'a, R: Wait, G, K: Keeps + Drop> Desk<'a, R, G, K> {
             None => Err(Refusal::BadCommand),
             Some(Command::Ask(question)) => {
                 let answer = self.monitor.ask(self.rt, member, question)?;
+                Ok(Reply::of_monitor(answer))
+            }
+            Some(Command::Ups(pool)) => {
+                let sets = self.ups(member, pool)?;
                 let by = Speaker::Monitor;
-                Ok(Reply::Found { by, answer })
+                Ok(Reply::Sets { by, sets })
             }
             Some(Command::Change(text)) => {
                 let Commit { epoch, evals } = self.change(member, text)?;
@@ -156,19 +209,15 @@ impl<'a, R: Wait, G, K: Keeps + Drop> Desk<'a, R, G, K> {
                 Ok(Reply::Changed { epoch, evals })
             }
             Some(Command::Await(wanted)) => {
-                let answer = Answer::Epoch(self.await_epoch(member, wanted)?);
-                let by = Speaker::Monitor;
-                Ok(Reply::Found { by, answer })
+                let epoch = self.await_epoch(member, wanted)?;
+                Ok(Reply::of_monitor(Answer::Epoch(epoch)))
             }
             Some(Command::Balance(plan)) => {
                 let Balance { epoch, moves } = self.balance(member, plan)?;
                 Ok(Reply::Moved { moves, epoch })
             }
-            Some(Command::Follower(task)) => {
-                let answer = follow(self.alloc, self.monitor, member, follower, task)?;
-                let by = Speaker::Follower;
-                Ok(Reply::Found { by, answer })
-            }
+            Some(Command::Follower(task)) => self.follow(member, follower, task),
+            Some(Command::FollowerUps(pool)) => self.follower_ups(member, follower, pool),
         }
     }
 }

@@ -46,9 +46,12 @@ pub(crate) enum Task {
 pub(crate) enum Command<'a> {
     /// Asks a question, and changes nothing.
     Ask(Question),
+    /// Asks for the up sets of all groups of a pool. Only a script of stock maps has it.
+    Ups(u32),
     /// Commits the change that a JSON text states.
     Change(&'a [u8]),
-    /// Commits the change that a JSON text states without a base to the present map. Only a script of stock maps has it.
+    /// Commits the change that a JSON text states without a base to the present map. Only a script of stock maps has
+    /// it.
     Apply(&'a [u8]),
     /// Waits until the epoch is at least this.
     Await(u64),
@@ -56,4 +59,6 @@ pub(crate) enum Command<'a> {
     Balance(Plan<'a>),
     /// Has the session's follower do something.
     Follower(Task),
+    /// Has the session's follower tell the up sets of all groups of a pool. Only a script of stock maps has it.
+    FollowerUps(u32),
 }

@@ -1,6 +1,6 @@
 //! What the sessions of a monitor share.
 
-use keeping::{Keeps, Nothing};
+use epochlog::{Keeps, Nothing};
 use monitor::Monitor;
 use std::alloc::Global;
 

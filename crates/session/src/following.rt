@@ -5,11 +5,12 @@ ghost use Rattle.epochlog.specs.Epochs.{OneBegins};
 ghost use Rattle.monitor.specs.declared.question.Question.TheVariants as question;
 ghost use Rattle.monitor.specs.Histories.{GoesOn};
 ghost use Rattle.monitor.specs.Followers.{Follows, RunsForOne};
-ghost use Rattle.session.specs.Answers.{FindsThere, FindsKept, HasCaughtUp, TellsIdle, Tells};
+ghost use Rattle.session.specs.Answers.{FindsThere, FindsKept, HasCaughtUp, TellsIdle, Tells, TellsSets};
 ghost use Rattle.session.specs.Sessions.{track, track_of, IsFollowerOf};
 
 use crate::command::Task;
-use keeping::Keeps;
+use crate::pool_sets::{PoolSets, sets_of};
+use epochlog::Keeps;
 use maptypes::Pg;
 use monitor::{Answer, Follower, Member, Monitor};
 use refusal::{Memory, Refusal};
@@ -70,6 +71,15 @@ fn find_kept(follower: &mut Follower, pg: Pg) -> Result<Answer, Refusal>
     Ok(Answer::Kept { epoch, pg, left })
 }
 
+/// Finds the up sets of all groups of a pool in the follower's map.
+fn find_sets(alloc: Global, follower: &mut Follower, pool: u32) -> Result<PoolSets, Refusal>
+    ensures same { follower.new ≡ record follower.old { runs = follower.new.runs } }
+    ensures tells { TellsSets follower.old.first (track follower.old) (track follower.new) pool result }
+{
+    let _ = follower.epoch();
+    sets_of(alloc, follower, pool)
+}
+
 /// Finds the written form of the follower's map.
 fn find_text(alloc: Global, follower: &Follower) -> Result<Answer, Refusal>
     ensures { FindsThere (after follower.now.first follower.now.history) question.Dump result }
@@ -119,6 +129,33 @@ pub(crate) fn follow<K: Keeps + Drop>(
             let answer = answer_task(alloc, monitor, follower, task);
             follower.meet(member);
             answer
+        }
+        None => unreachable!(),
+    }
+}
+
+/// The up sets of all groups of a pool in the map of the session's follower, which is made where there is none yet.
+/// After it the follower's history is known to begin the member's, or the member's the follower's.
+pub(crate) fn follow_sets<K: Keeps + Drop>(
+    alloc: Global,
+    monitor: &Monitor<K>,
+    member: &mut Member,
+    follower: &mut Option<Follower>,
+    pool: u32,
+) -> Result<PoolSets, Refusal>
+    requires member { member.old.pass.row ≡ monitor.now.row }
+    requires follower { IsFollowerOf monitor.now follower.old }
+    ensures member { member.new ≡ member.old }
+    ensures follower { IsFollowerOf monitor.now follower.new }
+    ensures tells { TellsSets monitor.now.first (track_of follower.old) (track_of follower.new) pool result }
+    ensures meets { OneBegins (track_of follower.new).history member.new.pass.history }
+{
+    need_follower(alloc, monitor, follower)?;
+    match follower {
+        Some(follower) => {
+            let sets = find_sets(alloc, follower, pool);
+            follower.meet(member);
+            sets
         }
         None => unreachable!(),
     }

@@ -8,9 +8,10 @@ use crate::line::{Asking, first_asking};
 use crate::progress::Progress;
 use crate::sink::Sink;
 use crate::telling::tell_answer;
-use keeping::Keeps;
+use epochlog::Keeps;
 use monitor::{Member, Shared};
 use std::sync::Wait;
+use std::thread::Threads;
 
 /// How many lines a session answers in one hold of the lock. It is counted by the length of their answers.
 const LINES_IN_A_HOLD: usize = 32;
@@ -35,7 +36,7 @@ fn lines_of(answer: &str) -> usize
     1 + answer.len() / BYTES_IN_A_LINE
 }
 
-impl<'a, R: Wait, G: Gate, K: Keeps + Drop> Desk<'a, R, G, K> {
+impl<'a, R: Wait + Threads + Sync, G: Gate, K: Keeps + Drop> Desk<'a, R, G, K> {
     ghost use Rattle.std.specs.Prelude.{◌≡◌, ◌<◌, ◌≤◌, ◌+◌, ◌^◌, ℕ, true, false, length, IfOk};
     ghost use Rattle.monitor.specs.Members.{IsMemberOf};
     ghost use Rattle.monitor.specs.Sharing.{IsSharing};

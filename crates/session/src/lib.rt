@@ -3,6 +3,7 @@
 //! - `command`, `parse`, `line`: what a line may ask for, how it is read, and the lines of a text
 //! - `desk`, `gate`, `progress`: what sessions share, what lets a line through, and what a session has of its own
 //! - `asking`, `following`, `watch`: how a command is done at the monitor and by the follower; the looks of an `await`
+//! - `pool_sets`: the up sets of all groups of a pool, as text
 //! - `reply`, `text`, `telling`, `sink`: the line of an answer, and how it is put where answers go
 //! - `lines`, `holding`: one line after another, and questions that follow one another in one hold of the lock
 //! - `session`, `reading`: a script that is there, and one whose lines come while it runs
@@ -19,6 +20,7 @@ mod holding;
 mod line;
 mod lines;
 mod parse;
+mod pool_sets;
 mod progress;
 mod reading;
 mod reply;

@@ -1,7 +1,7 @@
 //! The lines of a text, each with what it asks for.
 ghost use Rattle.std.specs.Prelude.{◌≡◌, ◌<◌, ◌∷◌, ◌++◌, length, position, IfSome, MatchOption};
 ghost use Rattle.std.specs.Option.{option_map};
-ghost use Rattle.session.specs.Readings.{IsPart, IsAsking};
+ghost use Rattle.session.specs.Readings.{IsUnended, IsAsking};
 ghost use Rattle.session.specs.Commands.{is_newline, command_of, command_in};
 
 use crate::command::Command;
@@ -42,8 +42,8 @@ fn newline(text: &[u8]) -> Option<usize>
 
 /// The first line that ends in a text. `None` where no line ends in it.
 pub(crate) fn cut(text: &[u8]) -> Option<FirstLine<'_>>
-    ensures { MatchOption result (IsPart text.now)
-        (λ found. IsPart found.line.now × (text.now ≡ found.line.now ++ 10 ∷ found.rest.now)) }
+    ensures { MatchOption result (IsUnended text.now)
+        (λ found. IsUnended found.line.now × (text.now ≡ found.line.now ++ 10 ∷ found.rest.now)) }
 {
     match newline(text) {
         Some(end) => Some(FirstLine {

@@ -9,14 +9,15 @@ use crate::parse::known_in;
 use crate::progress::Progress;
 use crate::sink::Sink;
 use crate::telling::{flush_if_full, tell_reply};
-use keeping::Keeps;
+use epochlog::Keeps;
 use monitor::Member;
 use std::sync::Wait;
+use std::thread::Threads;
 
-impl<'a, R: Wait, G: Gate, K: Keeps + Drop> Desk<'a, R, G, K> {
+impl<'a, R: Wait + Threads + Sync, G: Gate, K: Keeps + Drop> Desk<'a, R, G, K> {
     ghost use Rattle.std.specs.Prelude.{◌≡◌, ◌<◌, ◌+◌, ◌^◌, false, length, IfOk};
     ghost use Rattle.session.specs.Sessions.{session_at, stand, text_from, IsAtDesk};
-    ghost use Rattle.session.specs.Readings.{IsPart, IsLeft, AnswersLine, AnswersLines, AnswersAll};
+    ghost use Rattle.session.specs.Readings.{IsUnended, IsLeft, AnswersLine, AnswersLines, AnswersAll};
     ghost use Rattle.session.specs.Ends.{has_sink_failed};
 
     /// Does the command of a line, of the session's next number, and tells its answer whole.
@@ -53,7 +54,7 @@ impl<'a, R: Wait, G: Gate, K: Keeps + Drop> Desk<'a, R, G, K> {
         sink: &mut W,
     ) -> Result<&'t [u8], SessionError>
         requires session { IsAtDesk self.now member.old progress.old (W.has_failed sink.old) false }
-        requires line { IsPart first.line.now }
+        requires line { IsUnended first.line.now }
         requires few { progress.old.number + length (text_from first) < 2 ^ 64 }
         ensures session { IsAtDesk self.now member.new progress.new (W.has_failed sink.new) (has_sink_failed result) }
         ensures left { IfOk result (λ rest. IsLeft (progress.old.number + 1) progress.new.number
@@ -90,7 +91,7 @@ impl<'a, R: Wait, G: Gate, K: Keeps + Drop> Desk<'a, R, G, K> {
         requires session { IsAtDesk self.now member.old progress.old (W.has_failed sink.old) false }
         requires few { progress.old.number + length text.now < 2 ^ 64 }
         ensures session { IsAtDesk self.now member.new progress.new (W.has_failed sink.new) (has_sink_failed result) }
-        ensures part { IfOk result (λ rest. IsPart rest.now) }
+        ensures part { IfOk result (λ rest. IsUnended rest.now) }
         ensures answers { AnswersLines (session_at self.now G.lets) (stand member.old progress.old)
             (stand member.new progress.new) text.now (λ rest. rest.now)
             (W.written sink.old) (W.written sink.new) result }
@@ -112,7 +113,7 @@ impl<'a, R: Wait, G: Gate, K: Keeps + Drop> Desk<'a, R, G, K> {
         sink: &mut W,
     ) -> Result<(), SessionError>
         requires session { IsAtDesk self.now member.old progress.old (W.has_failed sink.old) false }
-        requires line { IsPart line.now }
+        requires line { IsUnended line.now }
         ensures session { IsAtDesk self.now member.new progress.new (W.has_failed sink.new) (has_sink_failed result) }
         ensures answers { AnswersAll (session_at self.now G.lets) (stand member.old progress.old)
             (stand member.new progress.new) line.now (W.written sink.old) (W.written sink.new) result }

@@ -2,7 +2,7 @@
 ghost use Rattle.std.specs.Prelude.{◌≡◌, ◌<◌, ◌≤◌, ◌==◌, ◌+◌, ◌*◌, ◌^◌, length, position, IfSome};
 ghost use Rattle.std.specs.Option.{option_map, option_and_then};
 ghost use Rattle.balancer.specs.Limits.{max_moves};
-ghost use Rattle.session.specs.Commands.{osd_in, epoch_in, two_words, words_of, limit_in, apart_in, beside_in, plan_for, plan_in, question_in, task_in, command_of, beside_of, command_in, known_in};
+ghost use Rattle.session.specs.Commands.{osd_in, epoch_in, two_words, words_of, limit_in, apart_in, beside_in, plan_for, plan_in, question_in, task_in, sets_in, command_of, beside_of, command_in, known_in};
 ghost use Rattle.session.specs.declared.command.Command.TheVariants.{Balance};
 
 use crate::command::{Beside, Command, Plan, Task};
@@ -39,6 +39,10 @@ const FOLLOWER_DUMP: &[u8] = b"fdump";
 const FOLLOWER_UP: &[u8] = b"fup ";
 
 const FOLLOWER_KEPT: &[u8] = b"fkept ";
+
+const UPS: &[u8] = b"ups ";
+
+const FOLLOWER_UPS: &[u8] = b"fups ";
 
 /// The first word of a text, and what stands behind its space.
 #[derive(Clone, Copy)]
@@ -186,6 +190,18 @@ fn read_task(line: &[u8]) -> Option<Task>
     Some(Task::Kept(Pg::parse(group)?))
 }
 
+/// What a line asks of the sets of a pool; `None` where it asks nothing of them.
+#[tactic(auto, unfolding(crate::specs::Commands::sets_in))]
+fn read_sets(line: &[u8]) -> Option<Command<'_>>
+    ensures { option_map command_of result ≡ sets_in line.now }
+{
+    if let Some(pool) = line.strip_prefix(UPS) {
+        return Some(Command::Ups(read_osd(pool)?));
+    }
+    let pool = line.strip_prefix(FOLLOWER_UPS)?;
+    Some(Command::FollowerUps(read_osd(pool)?))
+}
+
 /// The command of a line; `None` where the line is none.
 #[tactic(auto, unfolding(crate::specs::Commands::command_in))]
 pub(crate) fn read_command(line: &[u8]) -> Option<Command<'_>>
@@ -206,15 +222,24 @@ pub(crate) fn read_command(line: &[u8]) -> Option<Command<'_>>
     if let Some(plan) = line.strip_prefix(BALANCE) {
         return Some(Command::Balance(read_plan(plan)?));
     }
+    if let Some(command) = read_sets(line) {
+        return Some(command);
+    }
     Some(Command::Follower(read_task(line)?))
 }
 
-/// The command of a line in a script of maps of this profile: a script of plain maps has no `apply` and no `fkept`.
+/// The command of a line in a script of maps of this profile: a script of plain maps has no `apply`, `ups`, `fups` and
+/// `fkept`.
 pub(crate) fn known_in(profile: Profile, command: Option<Command<'_>>) -> Option<Command<'_>>
     ensures { option_map command_of result ≡ known_in profile (option_map command_of command.entry) }
 {
     match command {
-        Some(Command::Apply(_) | Command::Follower(Task::Kept(_))) if !profile.is_stock() => None,
+        Some(
+            Command::Apply(_)
+            | Command::Ups(_)
+            | Command::FollowerUps(_)
+            | Command::Follower(Task::Kept(_)),
+        ) if !profile.is_stock() => None,
         _ => command,
     }
 }

@@ -1,5 +1,6 @@
 //! A session whose lines come while it runs: each is answered as soon as it has ended.
-ghost use Rattle.std.specs.Prelude.{◌≡◌, ◌<◌, ◌≤◌, ◌+◌, ◌^◌, ◌++◌, true, false, length, take, IfOk, OnOk, IfErr, OnErr, MatchOption};
+ghost use Rattle.std.specs.Prelude.{◌≡◌, ◌<◌, ◌≤◌, ◌+◌, ◌^◌, ◌++◌, [], true, false, length, take, IfOk, OnOk, IfErr, OnErr, MatchOption};
+ghost use Rattle.std.specs.String.{string_bytes};
 ghost use Rattle.std.specs.Io.KnownBytes.{Consumes, Keeps, IsAtEnd};
 
 use crate::desk::Desk;
@@ -9,14 +10,18 @@ use crate::line::{cut, read_line};
 use crate::progress::Progress;
 use crate::sink::Sink;
 use crate::telling::flush;
-use keeping::Keeps;
+use epochlog::Keeps;
 use monitor::Member;
 use std::io;
 use std::io::Read;
 use std::sync::Wait;
+use std::thread::Threads;
 
 /// How many bytes are read at once, at most.
 const CHUNK: usize = 16_384;
+
+/// A session keeps room for so many bytes of an answer, and of a line that has begun, from one read to the next.
+const KEPT: usize = 65_536;
 
 /// What a session that reads its lines has of its own: its progress, and the line that has begun.
 #[derive(Drop)]
@@ -73,12 +78,20 @@ fn keep_more(begun: &mut Vec<u8>, more: &[u8]) -> Result<(), SessionError>
         .map_err(|_| SessionError::Memory)
 }
 
-impl<'a, R: Wait, G: Gate, K: Keeps + Drop> Desk<'a, R, G, K> {
+/// Gives back what a long answer took, once it is out.
+fn give_back(text: &mut String)
+    ensures { string_bytes text.new ≡ [] }
+{
+    text.clear();
+    text.shrink_to(KEPT);
+}
+
+impl<'a, R: Wait + Threads + Sync, G: Gate, K: Keeps + Drop> Desk<'a, R, G, K> {
     ghost use Rattle.std.specs.Prelude.{◌≡◌, ◌++◌, ◌+◌, ◌<◌, ◌^◌, [], true, false, length, IfOk, OnOk, IfErr};
     ghost use Rattle.std.specs.Io.KnownBytes.{IsAtEnd};
     ghost use Rattle.monitor.specs.Members.{IsMemberOf};
     ghost use Rattle.session.specs.Sessions.{session_at, first_sight, account, stand, reader_at, IsAtDesk, IsReadOut, IsCutShort};
-    ghost use Rattle.session.specs.Readings.{IsPart, AnswersLine, AnswersLines, AnswersAll, TakesMore};
+    ghost use Rattle.session.specs.Readings.{IsUnended, AnswersLine, AnswersLines, AnswersAll, TakesMore};
     ghost use Rattle.session.specs.Ends.{has_sink_failed};
 
     /// Answers the line that has begun, with its end behind it.
@@ -107,6 +120,7 @@ impl<'a, R: Wait, G: Gate, K: Keeps + Drop> Desk<'a, R, G, K> {
             sink,
         )?;
         reading.begun.clear();
+        reading.begun.shrink_to(KEPT);
         reading.progress.number += 1;
         Ok(())
     }
@@ -120,11 +134,11 @@ impl<'a, R: Wait, G: Gate, K: Keeps + Drop> Desk<'a, R, G, K> {
         sink: &mut W,
     ) -> Result<(), SessionError>
         requires session { IsAtDesk self.now member.old reading.old.progress (W.has_failed sink.old) false }
-        requires begun { IsPart reading.old.begun.items }
+        requires begun { IsUnended reading.old.begun.items }
         requires few { reading.old.progress.number + length text.now < 2 ^ 64 }
         ensures session { IsAtDesk self.now member.new reading.new.progress (W.has_failed sink.new)
             (has_sink_failed result) }
-        ensures begun { OnOk result (IsPart reading.new.begun.items) }
+        ensures begun { OnOk result (IsUnended reading.new.begun.items) }
         ensures answers { AnswersLines (session_at self.now G.lets) (stand member.old reading.old.progress)
             (stand member.new reading.new.progress) (reading.old.begun.items ++ text.now)
             (λ _. reading.new.begun.items) (W.written sink.old) (W.written sink.new) result }
@@ -147,10 +161,10 @@ impl<'a, R: Wait, G: Gate, K: Keeps + Drop> Desk<'a, R, G, K> {
         sink: &mut W,
     ) -> Result<bool, SessionError>
         requires session { IsAtDesk self.now member.old reading.old.progress (W.has_failed sink.old) false }
-        requires begun { IsPart reading.old.begun.items }
+        requires begun { IsUnended reading.old.begun.items }
         ensures session { IsAtDesk self.now member.new reading.new.progress (W.has_failed sink.new)
             (has_sink_failed result) }
-        ensures begun { OnOk result (IsPart reading.new.begun.items) }
+        ensures begun { OnOk result (IsUnended reading.new.begun.items) }
         ensures ended { IfOk result (λ ended. ended ≡ true → IsAtEnd (B.remaining reader.new)) }
         ensures takes { TakesMore (session_at self.now G.lets)
             (reader_at member.old reading.old (B.remaining reader.old))
@@ -158,6 +172,7 @@ impl<'a, R: Wait, G: Gate, K: Keeps + Drop> Desk<'a, R, G, K> {
             (W.written sink.old) (W.written sink.new) result }
     {
         flush(sink)?;
+        give_back(&mut reading.progress.text);
         may_wait(sink);
         if !can_count(reading.progress.number, CHUNK) {
             return Err(SessionError::Read);
@@ -178,7 +193,7 @@ impl<'a, R: Wait, G: Gate, K: Keeps + Drop> Desk<'a, R, G, K> {
         sink: &mut W,
     ) -> Result<(), SessionError>
         requires session { IsAtDesk self.now member.old reading.old.progress (W.has_failed sink.old) false }
-        requires begun { IsPart reading.old.begun.items }
+        requires begun { IsUnended reading.old.begun.items }
         ensures session { IsAtDesk self.now member.new reading.new.progress (W.has_failed sink.new)
             (has_sink_failed result) }
         ensures out { OnOk result (W.holds_back sink.new ≡ false) }

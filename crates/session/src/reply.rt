@@ -3,10 +3,12 @@ ghost use Rattle.std.specs.Prelude.{◌≡◌, ◌++◌, codes, decimal, OnOk};
 ghost use Rattle.std.specs.String.{string_bytes};
 ghost use Rattle.maptypes.specs.SetText.{list_text};
 ghost use Rattle.maptypes.specs.GroupText.{group_text};
+ghost use Rattle.session.specs.declared.reply.Reply.TheVariants.{Found};
 ghost use Rattle.session.specs.declared.reply.Speaker.TheVariants.{Monitor};
-ghost use Rattle.session.specs.Texts.{count_text, epoch_text, dump_text, up_text, groups_text, remnant_word, kept_text, refusal_text, line_of};
-ghost use Rattle.session.specs.Replies.{up_word, epoch_word, dump_word, answer_text, reply_text};
+ghost use Rattle.session.specs.Texts.{count_text, epoch_text, dump_text, up_text, ups_text, groups_text, remnant_word, kept_text, refusal_text, line_of};
+ghost use Rattle.session.specs.Replies.{up_word, ups_word, epoch_word, dump_word, answer_text, reply_text};
 
+use crate::pool_sets::PoolSets;
 use crate::text::{push_group, push_list, push_number, push_osd, push_places};
 use maptypes::{Pg, UpSet};
 use monitor::{Answer, Remnant};
@@ -27,10 +29,22 @@ pub(crate) enum Speaker {
 pub(crate) enum Reply {
     /// What a question finds, in the map of the monitor or of the session's follower.
     Found { by: Speaker, answer: Answer },
+    /// The up sets of all groups of a pool, in the map of the monitor or of the session's follower.
+    Sets { by: Speaker, sets: PoolSets },
     /// The epoch after a change, and the number of groups whose placement the change can alter.
     Changed { epoch: u64, evals: usize },
     /// How many moves a plan had, and the epoch after it.
     Moved { moves: usize, epoch: u64 },
+}
+
+impl Reply {
+    /// What a question finds at the monitor.
+    pub(crate) fn of_monitor(answer: Answer) -> Reply
+        ensures { result ≡ Found Monitor answer }
+    {
+        let by = Speaker::Monitor;
+        Reply::Found { by, answer }
+    }
 }
 
 impl Speaker {
@@ -41,6 +55,16 @@ impl Speaker {
         match self {
             Speaker::Monitor => "up",
             Speaker::Follower => "fup",
+        }
+    }
+
+    /// The first word of the sets of a pool.
+    fn ups_word(self) -> &'static str
+        ensures { result.now ≡ ups_word self }
+    {
+        match self {
+            Speaker::Monitor => "ups",
+            Speaker::Follower => "fups",
         }
     }
 
@@ -123,6 +147,19 @@ fn push_set(
     text.push_str("\n")
 }
 
+/// Adds the line of the sets of a pool's groups.
+#[tactic(auto, unfolding(crate::specs::Texts::ups_text))]
+fn push_sets(text: &mut String, word: &str, sets: &PoolSets) -> Result<(), AllocError>
+    ensures { OnOk result (string_bytes text.new ≡ string_bytes text.old
+        ++ ups_text word.now sets.now.epoch sets.now.pool (string_bytes sets.now.text)) }
+{
+    push_word(text, word, sets.epoch)?;
+    text.push_str(" ")?;
+    push_number(text, u64::from(sets.pool))?;
+    text.push_str(&sets.text)?;
+    text.push_str("\n")
+}
+
 /// Adds the line of an OSD's count.
 #[tactic(auto, unfolding(crate::specs::Texts::count_text))]
 fn push_count(text: &mut String, epoch: u64, osd: u32, count: usize) -> Result<(), AllocError>
@@ -198,6 +235,7 @@ fn push_reply(text: &mut String, reply: &Reply) -> Result<(), AllocError>
 {
     match reply {
         Reply::Found { by, answer } => push_answer(text, *by, answer),
+        Reply::Sets { by, sets } => push_sets(text, by.ups_word(), sets),
         Reply::Changed { epoch, evals } => writeln!(text, "ok {epoch} evals {evals}"),
         Reply::Moved { moves, epoch } => writeln!(text, "moved {moves} epoch {epoch}"),
     }
@@ -216,15 +254,15 @@ pub(crate) fn push_answer_line(
     }
 }
 
-/// Puts the line of a reply, or of a refusal, behind a text. The one error is out of memory.
+/// Puts the line of a reply, or of a refusal, behind a text, and gives back the reply. The one error is out of memory.
 pub(crate) fn push_reply_line(
     text: &mut String,
-    reply: &Result<Reply, Refusal>,
+    reply: Result<Reply, Refusal>,
 ) -> Result<(), AllocError>
-    ensures { OnOk result (string_bytes text.new ≡ string_bytes text.old ++ line_of reply_text reply.now) }
+    ensures { OnOk result (string_bytes text.new ≡ string_bytes text.old ++ line_of reply_text reply) }
 {
     match reply {
-        Ok(reply) => push_reply(text, reply),
-        Err(refusal) => push_refusal(text, *refusal),
+        Ok(reply) => push_reply(text, &reply),
+        Err(refusal) => push_refusal(text, refusal),
     }
 }

@@ -4,11 +4,12 @@ use crate::error::SessionError;
 use crate::gate::Gate;
 use crate::progress::Progress;
 use crate::sink::Sink;
-use keeping::Keeps;
+use epochlog::Keeps;
 use monitor::Member;
 use std::sync::Wait;
+use std::thread::Threads;
 
-impl<'a, R: Wait, G: Gate, K: Keeps + Drop> Desk<'a, R, G, K> {
+impl<'a, R: Wait + Threads + Sync, G: Gate, K: Keeps + Drop> Desk<'a, R, G, K> {
     ghost use Rattle.std.specs.Prelude.{◌≡◌, false, OnOk, IfErr};
     ghost use Rattle.monitor.specs.Members.{IsMemberOf};
     ghost use Rattle.session.specs.Sessions.{first_sight, account, session_at, IsPlayed, IsStopped};

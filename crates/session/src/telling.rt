@@ -24,7 +24,9 @@ pub(crate) fn tell_answer<W: Sink>(
     ensures waits { W.waits sink.new ≡ W.waits sink.old }
 {
     text.clear();
-    if push_answer_line(text, &found).is_err() {
+    let pushed = push_answer_line(text, &found);
+    drop(found);
+    if pushed.is_err() {
         return Err(SessionError::Memory);
     }
     write_whole(sink, text.as_bytes())?;
@@ -43,7 +45,7 @@ pub(crate) fn tell_reply<W: Sink>(
     ensures waits { W.waits sink.new ≡ W.waits sink.old }
 {
     text.clear();
-    if push_reply_line(text, &reply).is_err() {
+    if push_reply_line(text, reply).is_err() {
         return Err(SessionError::Memory);
     }
     write_whole(sink, text.as_bytes())?;

@@ -3,7 +3,7 @@ ghost use Rattle.std.specs.Prelude.{◌≡◌, ◌+◌, ◌<◌, ◌≤◌, true
 ghost use Rattle.session.specs.Watches.{max_looks, HasWatched};
 
 use crossbeam_utils::Backoff;
-use keeping::Keeps;
+use epochlog::Keeps;
 use monitor::Monitor;
 use std::sync::Wait;
 use std::sync::atomic::AtomicU64;

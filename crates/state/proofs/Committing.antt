@@ -6,7 +6,7 @@ use Rattle.osdmap.specs.Maps.{ClusterMap}
 use Rattle.osdmap.specs.Changes.{change_fault}
 use Rattle.epochlog.specs.Epochs.{Seen, longer, epoch_of}
 use Rattle.pgtable.specs.Tables.{TableFacts}
-use Rattle.keeping.specs.Journals.{with_step, Follows}
+use Rattle.epochlog.specs.Journals.{with_step, Follows}
 use Rattle.state.specs.States.{StateFacts, journal, IsKept, max_epoch, next_step, longer_by}
 use Rattle.state.proofs.Journals.{IsAccepted, step_is, joined_is, shown_is, last_epoch-snoc, epoch-kept}
 

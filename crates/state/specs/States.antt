@@ -10,7 +10,7 @@ use Rattle.osdmap.specs.Maps.{ClusterMap}
 use Rattle.osdmap.specs.Evals.{evals_of}
 use Rattle.osdmap.specs.Changes.{change_fault, apply, after, IsLawful}
 use Rattle.epochlog.specs.Epochs.{Line, Seen, max_capacity}
-use Rattle.keeping.specs.Journals.{Journal}
+use Rattle.epochlog.specs.Journals.{Journal}
 use Rattle.osdmap.specs.Stored.{StoredMap, HasRoomFor}
 use Rattle.pgtable.specs.declared.patch.Patch.{Patch}
 use Rattle.state.specs.declared.state.Commit.{Commit}

@@ -1,7 +1,7 @@
 //! What is asked of a state.
 
 use crate::state::State;
-use keeping::Keeps;
+use epochlog::Keeps;
 use maptypes::{Pg, UpSet};
 use refusal::Refusal;
 use std::alloc::Global;

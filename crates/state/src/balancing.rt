@@ -1,10 +1,10 @@
 //! Balancing the groups of a pool.
 
-use crate::state::State;
+use crate::state::{Proposal, State};
 use balancer::{PlannedChange, Request, plan};
-use epochlog::{Pass, Row};
-use keeping::Keeps;
+use epochlog::{Keeps, Pass, Row};
 use refusal::Refusal;
+use std::thread::Threads;
 
 /// What balancing did.
 #[derive(Clone, Copy, Debug, PartialEq, Eq)]
@@ -31,8 +31,9 @@ impl<K: Keeps + Drop> State<K> {
     /// block; else `Memory` (30) where there is no memory for it, or where a move is good `JournalFull` (28),
     /// `NotStored` (35) or `NotSealed` (32) as in `commit`. After an error all is as before, but for what `commit` may
     /// leave.
-    pub fn balance(
+    pub fn balance<R: Threads + Sync>(
         &mut self,
+        rt: &R,
         row: &Row,
         pass: &mut Pass,
         request: Request<'_>,
@@ -52,7 +53,11 @@ impl<K: Keeps + Drop> State<K> {
                 moves,
             });
         }
-        let epoch = self.commit(row, pass, current, change)?.epoch;
+        let proposal = Proposal {
+            base: current,
+            change,
+        };
+        let epoch = self.commit(rt, row, pass, proposal)?.epoch;
         Ok(Balance { epoch, moves })
     }
 }

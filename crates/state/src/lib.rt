@@ -13,6 +13,6 @@ mod shared_map;
 mod state;
 
 pub use balancing::Balance;
-pub use keeping::{Keeps, Nothing};
+pub use epochlog::{Keeps, Nothing};
 pub use shared_map::SharedMap;
-pub use state::{Commit, State};
+pub use state::{Commit, Proposal, State};

@@ -3,8 +3,8 @@
 
 ghost use Rattle.std.specs.Prelude.{◌≡◌, ◌+◌, ◌^◌, ◌<◌, ◌++◌, ◌∷◌, [], length, false, IfOk, OnErr, None};
 ghost use Rattle.epochlog.specs.Epochs.{epoch_of};
-ghost use Rattle.keeping.specs.Journals.{with_step};
-ghost use Rattle.keeping.specs.Stores.{IsKeptBy};
+ghost use Rattle.epochlog.specs.Journals.{with_step};
+ghost use Rattle.epochlog.specs.Stores.{IsKeptBy};
 ghost use Rattle.osdmap.specs.Changes.{change_fault, apply};
 ghost use Rattle.pgtable.specs.Rooms.{RunMore};
 ghost use Rattle.pgtable.specs.Tables.{IsTableOf};
@@ -13,8 +13,7 @@ ghost use Rattle.osdmap.specs.Stored.{HasRoomFor};
 ghost use Rattle.state.specs.States.{IsReady, journal};
 
 use crate::shared_map::SharedMap;
-use epochlog::{NotSealed, Pass, Row};
-use keeping::{Keeper, Keeps, Kept, Nothing};
+use epochlog::{Keeper, Keeps, Kept, NotSealed, Nothing, Pass, Row};
 use maptypes::{Change, Incremental};
 use osdmap::OsdMap;
 use pgtable::{Patch, PgTable, Rooms};
@@ -22,6 +21,15 @@ use refusal::{Memory, Refusal};
 use std::alloc::Global;
 use std::marker::Model;
 use std::thread::Threads;
+
+/// A change, and the epoch of the map that it is for.
+#[derive(Drop)]
+pub struct Proposal {
+    /// The epoch.
+    pub base: u64,
+    /// The change.
+    pub change: Change,
+}
 
 /// What a commit made.
 #[derive(Clone, Copy, Debug, PartialEq, Eq)]
@@ -46,7 +54,7 @@ pub struct State<K: Keeps + Drop = Nothing> {
 }
 
 impl<K: Keeps + Drop> Model for State<K> {
-    ghost use Rattle.keeping.specs.Stores.{IsKeptBy};
+    ghost use Rattle.epochlog.specs.Stores.{IsKeptBy};
     ghost use Rattle.pgtable.specs.Rooms.{runs_of};
     ghost use Rattle.state.specs.States.{StateFacts, IsKept, facts, journal};
 
@@ -61,8 +69,8 @@ impl<K: Keeps + Drop> Model for State<K> {
 
 /// All that a commit needs memory for: room in the map, the patch of its table, for which `rooms` count a rule run for
 /// each evaluation, and the incremental of the next epoch in a box.
-fn prepare(
-    alloc: Global,
+fn prepare<R: AllocGlobal + Threads + Sync>(
+    rt: &R,
     map: &mut OsdMap,
     table: &PgTable,
     rooms: &mut Rooms,
@@ -75,9 +83,9 @@ fn prepare(
     ensures ready { IfOk result (λ r. IsReady map.new table.now change r.0 r.1.value) }
     ensures runs { IfOk result (λ r. RunMore r.0.evals rooms.old rooms.new) }
 {
-    map.reserve_for(alloc, &change)?;
-    let patch = table.prepare(alloc, map, &change, rooms)?;
-    let step = Box::new(alloc, Incremental::new(map.epoch() + 1, change))?;
+    map.reserve_for(rt.alloc(), &change)?;
+    let patch = table.prepare(rt, map, &change, rooms)?;
+    let step = Box::new(rt.alloc(), Incremental::new(map.epoch() + 1, change))?;
     Ok((patch, step))
 }
 
@@ -129,12 +137,12 @@ impl<K: Keeps + Drop> State<K> {
     ghost use Rattle.osdmap.specs.Changes.{epoch_after, after, IsLawful};
     ghost use Rattle.pgtable.specs.Tables.{IsTableOf};
     ghost use Rattle.refusal.specs.declared.refused.Refusal.TheVariants.{NotStored};
-    ghost use Rattle.keeping.specs.Journals.{Journal, HasAll};
+    ghost use Rattle.epochlog.specs.Journals.{Journal, HasAll};
     ghost use Rattle.state.specs.States.{journal, opened, max_epoch, Commits, fault_in};
 
-    /// The state at its beginning: no change yet. It is for a row whose first epoch is the map's. It makes rooms for its
-    /// groups, in threads where these are many, which count all runs of rules of the state: one for each group now, then
-    /// one for each evaluation of a change. The store holds the map and no change yet.
+    /// The state at its beginning: no change yet. It is for a row whose first epoch is the map's. It makes rooms for
+    /// its groups, in threads where these are many, which count all runs of rules of the state: one for each group now,
+    /// then one for each evaluation of a change. The store holds the map and no change yet.
     ///
     /// # Errors
     ///
@@ -220,10 +228,11 @@ impl<K: Keeps + Drop> State<K> {
         self.keeper.into_store()
     }
 
-    /// Applies a change to the present map, whose epoch `base` must be, keeps it in the store and seals it in the row:
-    /// the new epoch, and the number of groups whose rules it ran, which are those whose placement it can alter. `pass`
-    /// is one of the caller that has seen what the state has; it sees the change too. All memory is taken before the
-    /// change is kept, and it is kept before anybody can see it; after the seal nothing can fail.
+    /// Applies a change to the present map, whose epoch its `base` must be, keeps it in the store and seals it in the
+    /// row: the new epoch, and the number of groups whose rules it ran, which are those whose placement it can alter.
+    /// Where they are many, it runs them in threads. `pass` is one of the caller that has seen what the state has; it
+    /// sees the change too. All memory is taken before the change is kept, and it is kept before anybody can see it;
+    /// after the seal nothing can fail.
     ///
     /// # Errors
     ///
@@ -232,22 +241,23 @@ impl<K: Keeps + Drop> State<K> {
     /// where there is no memory for it, `NotStored` (35) where the store does not take it or has failed before, or
     /// `NotSealed` (32) where another sealed the epoch. After an error all is as before, but that rules may have run
     /// and be counted, and that after 35 or 32 the store may count as failed: then nothing more is accepted.
-    pub fn commit(
+    pub fn commit<R: Threads + Sync>(
         &mut self,
+        rt: &R,
         row: &Row,
         pass: &mut Pass,
-        base: u64,
-        change: Change,
+        proposal: Proposal,
     ) -> Result<Commit, Refusal>
         requires row { self.old.pass.row ≡ row.now }
         requires pass { pass.old ≡ self.old.pass }
-        ensures commits { Commits self.old self.new base change result }
+        ensures commits { Commits self.old self.new proposal.base proposal.change result }
         ensures stored { IfErr result (λ e. e ≡ NotStored → K.may_fail) }
         ensures pass { pass.new ≡ self.new.pass }
     {
+        let Proposal { base, change } = proposal;
         self.accepts(row, base, &change)?;
         let (patch, step) = prepare(
-            self.alloc,
+            &(rt, self.alloc),
             &mut self.map,
             &self.table,
             &mut self.rooms,

@@ -12,7 +12,7 @@ use Rattle.ticketlock.specs.declared.view.Event.TheVariants.{Took, CutOff}
 use Rattle.ticketlock.specs.declared.view.Sight.{Sight}
 use Rattle.ticketlock.specs.Rule.{LockWorld, Takes, newcomer}
 use Rattle.ticketlock.specs.Places.{sight_cut, unseeing}
-use Rattle.ticketlock.specs.Traces.{view_in, steps_by, Begins, IsKnownTo, AreKnown, IsReachedBy, KnowsRun, Follows, IsFrom, GoesOn}
+use Rattle.ticketlock.specs.Traces.{view_in, steps_by, IsBeginning, IsKnownTo, AreKnown, IsReachedBy, KnowsRun, HasTaken, IsFrom, HasTakenSome}
 use Rattle.ticketlock.proofs.Runs.{alone_writes}
 use Rattle.ticketlock.proofs.Traced.{reached_keeps, within}
 
@@ -41,7 +41,7 @@ own_cut seat k (Took r j ∷ events) = dite (ℕ_discrete j seat)
 own_cut seat k (CutOff j ∷ events) = own_cut seat k events
 
 -- what begins a list begins it one event later
-begins_more : (seen events : List Event) (e : Event) → Begins seen events → Begins seen (events ++ e ∷ [])
+begins_more : (seen events : List Event) (e : Event) → IsBeginning seen events → IsBeginning seen (events ++ e ∷ [])
 begins_more seen events e b = (b.0 ++ e ∷ [], ap (λ (l : List Event). l ++ e ∷ []) b.1 ∙ append_assoc seen b.0 (e ∷ []))
 
 -- the views of sights of which one is another
@@ -82,7 +82,7 @@ module _ (id : ℕ) (me : Sight) (events : List Event) (sights : List Sight) (kn
   )
 
   -- and the seat knows the run
-  pub follows_then : (seats : ℕ) (s : Step) (v : View) (next : LockWorld) → IsReachedBy seats (events ++ Took s id ∷ []) next → get_elem? next.views id ≡ some v → Follows (s ∷ []) me (sight_then s v)
+  pub follows_then : (seats : ℕ) (s : Step) (v : View) (next : LockWorld) → IsReachedBy seats (events ++ Took s id ∷ []) next → get_elem? next.views id ≡ some v → HasTaken (s ∷ []) me (sight_then s v)
   follows_then seats s v next reached there = let kept = reached_keeps seats (events ++ Took s id ∷ []) next reached in (
     begins_more me.seen events (Took s id) (known.0 id me at).0,
     refl,
@@ -111,7 +111,7 @@ module _ (id : ℕ) (me : Sight) (events : List Event) (sights : List Sight) (kn
   )
 
 -- a seat that has taken some steps and then others has taken both
-pub follows_both : (steps more : List Step) (a b c : Sight) → Follows steps a b → Follows more b c → Follows (steps ++ more) a c
+pub follows_both : (steps more : List Step) (a b c : Sight) → HasTaken steps a b → HasTaken more b c → HasTaken (steps ++ more) a c
 follows_both steps more a b c f g = (
   (f.0.0 ++ g.0.0, g.0.1 ∙ (ap (λ (l : List Event). l ++ g.0.0) f.0.1 ∙ append_assoc a.seen f.0.0 g.0.0)),
   g.1 ∙ (ap (λ (l : List Step). l ++ more) f.1 ∙ append_assoc a.mine steps more),
@@ -123,7 +123,7 @@ pub from_here : (a : Sight) → IsFrom a a
 from_here a = (([], sym (append-nil a.seen)), [], sym (append-nil a.mine))
 
 -- a seat that has taken some steps is from where it stood
-pub from_then : (steps : List Step) (a b c : Sight) → IsFrom a b → Follows steps b c → IsFrom a c
+pub from_then : (steps : List Step) (a b c : Sight) → IsFrom a b → HasTaken steps b c → IsFrom a c
 from_then steps a b c f g = (
   (f.0.0 ++ g.0.0, g.0.1 ∙ (ap (λ (l : List Event). l ++ g.0.0) f.0.1 ∙ append_assoc a.seen f.0.0 g.0.0)),
   f.1 ++ steps,
@@ -131,5 +131,5 @@ from_then steps a b c f g = (
 )
 
 -- and goes on from there
-pub goes_from : (steps : List Step) (a b c : Sight) → IsFrom a b → Follows steps b c → GoesOn a c
+pub goes_from : (steps : List Step) (a b c : Sight) → IsFrom a b → HasTaken steps b c → HasTakenSome a c
 goes_from steps a b c f g = let h = from_then steps a b c f g in (h.1, (h.0, h.2, g.2))

@@ -13,7 +13,7 @@ use Rattle.ticketlock.specs.declared.view.Kind.TheVariants.{Read, Write}
 use Rattle.ticketlock.specs.declared.view.Step.{Step}
 use Rattle.ticketlock.specs.declared.view.Step.TheVariants.{Draws, ReaderLooks, WriterLooks, ReaderEnters, ReaderLeaves, WriterCloses, WriterLeaves}
 use Rattle.ticketlock.specs.Rule.{LockWorld, Takes, drawn_for, looked_at, gone_in, gone_out}
-use Rattle.ticketlock.specs.Traces.{world_of, view_in, AreKnown, IsReachedBy, IsTraced, Follows}
+use Rattle.ticketlock.specs.Traces.{world_with, view_in, AreKnown, IsReachedBy, IsTraced, HasTaken}
 use Rattle.ticketlock.proofs.Steps.{few_draws}
 use Rattle.ticketlock.proofs.Traced.{reached_keeps, reached_then}
 use Rattle.ticketlock.proofs.KnownRuns.{sight_then, known_then, follows_then, view_at, view_then, views_set}
@@ -21,12 +21,12 @@ use Rattle.ticketlock.proofs.KnownRuns.{sight_then, known_then, follows_then, vi
 module _ (seats slots id : ℕ) (me : Me ℕ Sight) where
   -- a step of the seat from a traced table to these words: the table is traced again, and the seat knows the run
   goes : (s : State ℕ Sight) (line : IsTraced seats s) → get_elem? s.views id ≡ some me.0 → (step : Step) (v : View) (words : List ℕ) (U R W : ℕ) → words ≡ U ∷ R ∷ W ∷ []
-      → Takes step (world_of line.0 line.1 line.2 (map view_in s.views)) id me.0.view (world_of U R W (set (map view_in s.views) id v))
-      → (w : Sight) × IsTraced seats (record { words = words; homes = s.homes; views = set s.views id w }) × (w.view ≡ v) × Follows (step ∷ []) me.0 w
+      → Takes step (world_with line.0 line.1 line.2 (map view_in s.views)) id me.0.view (world_with U R W (set (map view_in s.views) id v))
+      → (w : Sight) × IsTraced seats (record { words = words; homes = s.homes; views = set s.views id w }) × (w.view ≡ v) × HasTaken (step ∷ []) me.0 w
   goes s line at step v words U R W same takes =
       let events : List Event = line.4 in
       let views : List View = map view_in s.views in
-      let reached = reached_then seats events (world_of line.0 line.1 line.2 views) step id me.0.view (world_of U R W (set views id v)) line.5 (view_at id me.0 events s.views line.6 at) takes in
+      let reached = reached_then seats events (world_with line.0 line.1 line.2 views) step id me.0.view (world_with U R W (set views id v)) line.5 (view_at id me.0 events s.views line.6 at) takes in
       let w : Sight = sight_then id me.0 events s.views line.6 at step v in (
         w,
         (
@@ -35,17 +35,17 @@ module _ (seats slots id : ℕ) (me : Me ℕ Sight) where
           W,
           same,
           events ++ Took step id ∷ [],
-          subst (λ (l : List View). IsReachedBy seats (events ++ Took step id ∷ []) (world_of U R W l)) (sym (views_set s.views id w)) reached,
+          subst (λ (l : List View). IsReachedBy seats (events ++ Took step id ∷ []) (world_with U R W l)) (sym (views_set s.views id w)) reached,
           known_then id me.0 events s.views line.6 at step v,
         ),
         refl,
-        follows_then id me.0 events s.views line.6 at seats step v (world_of U R W (set views id v)) reached (view_then id me.0 events s.views line.6 at v),
+        follows_then id me.0 events s.views line.6 at seats step v (world_with U R W (set views id v)) reached (view_then id me.0 events s.views line.6 at v),
       )
 
   -- a draw for either kind
-  draw : (kind : Kind) → me.0.view.stage ≡ Idle → me.0.view.draws < 2 ^ 40 → Allows (IsTraced seats) slots id me 0 (λ n. (n + 1) % 2 ^ 64) (λ n you. (you.1 ≡ me.1) × (you.0.view ≡ drawn_for kind n me.0.view) × Follows (Draws kind ∷ []) me.0 you.0)
+  draw : (kind : Kind) → me.0.view.stage ≡ Idle → me.0.view.draws < 2 ^ 40 → Allows (IsTraced seats) slots id me 0 (λ n. (n + 1) % 2 ^ 64) (λ n you. (you.1 ≡ me.1) × (you.0.view ≡ drawn_for kind n me.0.view) × HasTaken (Draws kind ∷ []) me.0 you.0)
   draw kind idle room s line len at fits =
-      let w : LockWorld = world_of line.0 line.1 line.2 (map view_in s.views) in
+      let w : LockWorld = world_with line.0 line.1 line.2 (map view_in s.views) in
       let found : slice_index s.words 0 ≡ line.0 = ap (λ ws. slice_index ws 0) line.3 in
       let few = few_draws w (reached_keeps seats line.4 w line.5) in
       let whole : (line.0 + 1) % 2 ^ 64 ≡ line.0 + 1 = omega arith in
@@ -54,32 +54,32 @@ module _ (seats slots id : ℕ) (me : Me ℕ Sight) where
       (g.0, keeps, tt, g.1, (refl, g.2 ∙ ap (λ (n : ℕ). drawn_for kind n me.0.view) (sym found), g.3))
 
   -- a draw to read
-  pub may_draw_read : me.0.view.stage ≡ Idle → me.0.view.draws < 2 ^ 40 → Allows (IsTraced seats) slots id me 0 (λ n. (n + 1) % 2 ^ 64) (λ n you. (you.1 ≡ me.1) × (you.0.view ≡ drawn_for Read n me.0.view) × Follows (Draws Read ∷ []) me.0 you.0)
+  pub may_draw_read : me.0.view.stage ≡ Idle → me.0.view.draws < 2 ^ 40 → Allows (IsTraced seats) slots id me 0 (λ n. (n + 1) % 2 ^ 64) (λ n you. (you.1 ≡ me.1) × (you.0.view ≡ drawn_for Read n me.0.view) × HasTaken (Draws Read ∷ []) me.0 you.0)
   may_draw_read = draw Read
 
   -- a draw to write
-  pub may_draw_write : me.0.view.stage ≡ Idle → me.0.view.draws < 2 ^ 40 → Allows (IsTraced seats) slots id me 0 (λ n. (n + 1) % 2 ^ 64) (λ n you. (you.1 ≡ me.1) × (you.0.view ≡ drawn_for Write n me.0.view) × Follows (Draws Write ∷ []) me.0 you.0)
+  pub may_draw_write : me.0.view.stage ≡ Idle → me.0.view.draws < 2 ^ 40 → Allows (IsTraced seats) slots id me 0 (λ n. (n + 1) % 2 ^ 64) (λ n you. (you.1 ≡ me.1) × (you.0.view ≡ drawn_for Write n me.0.view) × HasTaken (Draws Write ∷ []) me.0 you.0)
   may_draw_write = draw Write
 
   -- a reader's look
-  pub may_look_read : (t : ℕ) → me.0.view.stage ≡ Waiting t Read → Allows (IsTraced seats) slots id me 1 (λ n. n) (λ n you. (you.1 ≡ me.1) × (you.0.view ≡ looked_at n me.0.view) × Follows (ReaderLooks ∷ []) me.0 you.0)
+  pub may_look_read : (t : ℕ) → me.0.view.stage ≡ Waiting t Read → Allows (IsTraced seats) slots id me 1 (λ n. n) (λ n you. (you.1 ≡ me.1) × (you.0.view ≡ looked_at n me.0.view) × HasTaken (ReaderLooks ∷ []) me.0 you.0)
   may_look_read t waits s line len at fits =
       let found : slice_index s.words 1 ≡ line.1 = ap (λ ws. slice_index ws 1) line.3 in
       let g = goes s line at ReaderLooks (looked_at line.1 me.0.view) (slice_set s.words 1 (slice_index s.words 1)) line.0 line.1 line.2 (ap (λ ws. slice_set ws 1 (slice_index ws 1)) line.3) (t, waits, refl) in
       (g.0, keeps, tt, g.1, (refl, g.2 ∙ ap (λ (n : ℕ). looked_at n me.0.view) (sym found), g.3))
 
   -- a writer's look
-  pub may_look_write : (t : ℕ) → me.0.view.stage ≡ Waiting t Write → Allows (IsTraced seats) slots id me 2 (λ n. n) (λ n you. (you.1 ≡ me.1) × (you.0.view ≡ looked_at n me.0.view) × Follows (WriterLooks ∷ []) me.0 you.0)
+  pub may_look_write : (t : ℕ) → me.0.view.stage ≡ Waiting t Write → Allows (IsTraced seats) slots id me 2 (λ n. n) (λ n you. (you.1 ≡ me.1) × (you.0.view ≡ looked_at n me.0.view) × HasTaken (WriterLooks ∷ []) me.0 you.0)
   may_look_write t waits s line len at fits =
       let found : slice_index s.words 2 ≡ line.2 = ap (λ ws. slice_index ws 2) line.3 in
       let g = goes s line at WriterLooks (looked_at line.2 me.0.view) (slice_set s.words 2 (slice_index s.words 2)) line.0 line.1 line.2 (ap (λ ws. slice_set ws 2 (slice_index ws 2)) line.3) (t, waits, refl) in
       (g.0, keeps, tt, g.1, (refl, g.2 ∙ ap (λ (n : ℕ). looked_at n me.0.view) (sym found), g.3))
 
   -- an add to the reader word by which the seat goes in
-  enters : (step : Step) → ((w : LockWorld) → Takes step w id me.0.view (world_of w.draw_word (w.reader_word + 1) w.writer_word (set w.views id (gone_in me.0.view))))
-      → Allows (IsTraced seats) slots id me 1 (λ n. (n + 1) % 2 ^ 64) (λ n you. (you.1 ≡ me.1) × (you.0.view ≡ gone_in me.0.view) × Follows (step ∷ []) me.0 you.0)
+  enters : (step : Step) → ((w : LockWorld) → Takes step w id me.0.view (world_with w.draw_word (w.reader_word + 1) w.writer_word (set w.views id (gone_in me.0.view))))
+      → Allows (IsTraced seats) slots id me 1 (λ n. (n + 1) % 2 ^ 64) (λ n you. (you.1 ≡ me.1) × (you.0.view ≡ gone_in me.0.view) × HasTaken (step ∷ []) me.0 you.0)
   enters step takes s line len at fits =
-      let w : LockWorld = world_of line.0 line.1 line.2 (map view_in s.views) in
+      let w : LockWorld = world_with line.0 line.1 line.2 (map view_in s.views) in
       let kept = reached_keeps seats line.4 w line.5 in
       let few = few_draws w kept in
       let o = kept.order.1 in
@@ -89,10 +89,10 @@ module _ (seats slots id : ℕ) (me : Me ℕ Sight) where
       (g.0, keeps, tt, g.1, (refl, g.2, g.3))
 
   -- an add to the writer word by which the seat goes out
-  leaves : (step : Step) → ((w : LockWorld) → Takes step w id me.0.view (world_of w.draw_word w.reader_word (w.writer_word + 1) (set w.views id (gone_out me.0.view))))
-      → Allows (IsTraced seats) slots id me 2 (λ n. (n + 1) % 2 ^ 64) (λ n you. (you.1 ≡ me.1) × (you.0.view ≡ gone_out me.0.view) × Follows (step ∷ []) me.0 you.0)
+  leaves : (step : Step) → ((w : LockWorld) → Takes step w id me.0.view (world_with w.draw_word w.reader_word (w.writer_word + 1) (set w.views id (gone_out me.0.view))))
+      → Allows (IsTraced seats) slots id me 2 (λ n. (n + 1) % 2 ^ 64) (λ n you. (you.1 ≡ me.1) × (you.0.view ≡ gone_out me.0.view) × HasTaken (step ∷ []) me.0 you.0)
   leaves step takes s line len at fits =
-      let w : LockWorld = world_of line.0 line.1 line.2 (map view_in s.views) in
+      let w : LockWorld = world_with line.0 line.1 line.2 (map view_in s.views) in
       let kept = reached_keeps seats line.4 w line.5 in
       let few = few_draws w kept in
       let o = kept.order.0 in
@@ -103,17 +103,17 @@ module _ (seats slots id : ℕ) (me : Me ℕ Sight) where
       (g.0, keeps, tt, g.1, (refl, g.2, g.3))
 
   -- a reader enters
-  pub may_enter : (t : ℕ) → me.0.view.stage ≡ Next t → Allows (IsTraced seats) slots id me 1 (λ n. (n + 1) % 2 ^ 64) (λ n you. (you.1 ≡ me.1) × (you.0.view ≡ gone_in me.0.view) × Follows (ReaderEnters ∷ []) me.0 you.0)
+  pub may_enter : (t : ℕ) → me.0.view.stage ≡ Next t → Allows (IsTraced seats) slots id me 1 (λ n. (n + 1) % 2 ^ 64) (λ n you. (you.1 ≡ me.1) × (you.0.view ≡ gone_in me.0.view) × HasTaken (ReaderEnters ∷ []) me.0 you.0)
   may_enter t next = enters ReaderEnters (λ w. (t, next, refl))
 
   -- a writer leaves, first step
-  pub may_close : (t : ℕ) → me.0.view.stage ≡ Writing t → Allows (IsTraced seats) slots id me 1 (λ n. (n + 1) % 2 ^ 64) (λ n you. (you.1 ≡ me.1) × (you.0.view ≡ gone_in me.0.view) × Follows (WriterCloses ∷ []) me.0 you.0)
+  pub may_close : (t : ℕ) → me.0.view.stage ≡ Writing t → Allows (IsTraced seats) slots id me 1 (λ n. (n + 1) % 2 ^ 64) (λ n you. (you.1 ≡ me.1) × (you.0.view ≡ gone_in me.0.view) × HasTaken (WriterCloses ∷ []) me.0 you.0)
   may_close t writes = enters WriterCloses (λ w. (t, writes, refl))
 
   -- a reader leaves
-  pub may_leave : (t : ℕ) → me.0.view.stage ≡ Reading t → Allows (IsTraced seats) slots id me 2 (λ n. (n + 1) % 2 ^ 64) (λ n you. (you.1 ≡ me.1) × (you.0.view ≡ gone_out me.0.view) × Follows (ReaderLeaves ∷ []) me.0 you.0)
+  pub may_leave : (t : ℕ) → me.0.view.stage ≡ Reading t → Allows (IsTraced seats) slots id me 2 (λ n. (n + 1) % 2 ^ 64) (λ n you. (you.1 ≡ me.1) × (you.0.view ≡ gone_out me.0.view) × HasTaken (ReaderLeaves ∷ []) me.0 you.0)
   may_leave t reads = leaves ReaderLeaves (λ w. (t, reads, refl))
 
   -- a writer leaves, second step
-  pub may_end : (t : ℕ) → me.0.view.stage ≡ Closing t → Allows (IsTraced seats) slots id me 2 (λ n. (n + 1) % 2 ^ 64) (λ n you. (you.1 ≡ me.1) × (you.0.view ≡ gone_out me.0.view) × Follows (WriterLeaves ∷ []) me.0 you.0)
+  pub may_end : (t : ℕ) → me.0.view.stage ≡ Closing t → Allows (IsTraced seats) slots id me 2 (λ n. (n + 1) % 2 ^ 64) (λ n you. (you.1 ≡ me.1) × (you.0.view ≡ gone_out me.0.view) × HasTaken (WriterLeaves ∷ []) me.0 you.0)
   may_end t closes = leaves WriterLeaves (λ w. (t, closes, refl))

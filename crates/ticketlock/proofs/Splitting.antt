@@ -7,7 +7,7 @@ use Rattle.ticketlock.specs.declared.view.Event.{Event}
 use Rattle.ticketlock.specs.declared.view.Event.TheVariants.{CutOff}
 use Rattle.ticketlock.specs.Rule.{newcomer}
 use Rattle.ticketlock.specs.Places.{one_cut, sight_cut, unseeing}
-use Rattle.ticketlock.specs.Traces.{world_of, view_in, IsReachedBy, IsTraced}
+use Rattle.ticketlock.specs.Traces.{world_with, view_in, IsReachedBy, IsTraced}
 use Rattle.ticketlock.proofs.Traced.{reached_cut}
 use Rattle.ticketlock.proofs.KnownRuns.{known_cut, view_at, views_set, views_snoc}
 
@@ -23,7 +23,7 @@ may_cut seats id me some_spare s line at =
       line.2,
       line.3,
       events ++ CutOff id ∷ [],
-      subst (λ (l : List View). IsReachedBy seats (events ++ CutOff id ∷ []) (world_of line.0 line.1 line.2 l)) (sym same)
-          (reached_cut seats events (world_of line.0 line.1 line.2 views) id me.view line.5 (view_at id me events s.views line.6 at) some_spare),
+      subst (λ (l : List View). IsReachedBy seats (events ++ CutOff id ∷ []) (world_with line.0 line.1 line.2 l)) (sym same)
+          (reached_cut seats events (world_with line.0 line.1 line.2 views) id me.view line.5 (view_at id me events s.views line.6 at) some_spare),
       known_cut id me events s.views line.6 at,
     )

@@ -6,7 +6,7 @@ use native.Mathlib.Decide.{ℕ_discrete, dec_lt}
 use lib.ListN.{get_elem?}
 use Rattle.atomic_table.proofs.Lists.{at_set}
 use Rattle.ticketlock.specs.declared.view.View.{View}
-use Rattle.ticketlock.specs.Rule.{LockWorld, Each, has, total, IsCounted, IsHeldOnce}
+use Rattle.ticketlock.specs.Rule.{LockWorld, Each, has, total, CountsDraws, IsHeldOnce}
 use Rattle.ticketlock.proofs.Totals.{total_stays, part_of}
 
 -- 1 where k is t, and else 0
@@ -37,8 +37,8 @@ pub seats_stay : (views : List View) (seat : ℕ) (v w : View) → get_elem? vie
 seats_stay views seat v w at e few = let l = length_set views seat w in let s = total_stays (λ u. u.spare) views seat v w at e in omega arith
 
 -- a step that is no draw leaves the count of draws
-pub counted_stays : (w : LockWorld) (seat : ℕ) (v new : View) → get_elem? w.views seat ≡ some v → new.draws ≡ v.draws → new.spare ≡ v.spare → IsCounted w → (r a : ℕ)
-    → IsCounted (record { draw_word = w.draw_word; reader_word = r; writer_word = a; views = set w.views seat new })
+pub counted_stays : (w : LockWorld) (seat : ℕ) (v new : View) → get_elem? w.views seat ≡ some v → new.draws ≡ v.draws → new.spare ≡ v.spare → CountsDraws w → (r a : ℕ)
+    → CountsDraws (record { draw_word = w.draw_word; reader_word = r; writer_word = a; views = set w.views seat new })
 counted_stays w seat v new at same_draws same_spare c r a = record {
   sum = let s = total_stays (λ u. u.draws) w.views seat v new at same_draws in let q = c.sum in omega arith;
   limit = each_set (λ u. u.draws ≤ 2 ^ 40) w.views seat new (let l = c.limit seat v at in omega arith) (λ j u _ e. c.limit j u e);

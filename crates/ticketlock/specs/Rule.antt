@@ -145,7 +145,7 @@ pub record IsHeldOnce (w : LockWorld) : Type 0 where
   pub none_yet : (t : ℕ) → w.draw_word ≤ t → holders t w.views ≡ 0
 
 -- U counts all draws, each seat's at most 2^40; and there are at most 1,024 seats with those that may still be cut off
-pub record IsCounted (w : LockWorld) : Type 0 where
+pub record CountsDraws (w : LockWorld) : Type 0 where
   pub sum : w.draw_word ≡ total (λ v. v.draws) w.views
   pub limit : Each (λ v. v.draws ≤ 2 ^ 40) w.views
   pub seats : length w.views + total (λ v. v.spare) w.views ≤ 1024
@@ -161,4 +161,4 @@ pub record KeepsRule (w : LockWorld) : Type 0 where
   -- who is next has the ticket R; who writes has the ticket R, and W is the same
   pub served : Each (λ v. IsInTurn w.reader_word w.writer_word v.stage) w.views
   -- U is the sum of all draws, each seat's at most 2^40
-  pub counted : IsCounted w
+  pub counted : CountsDraws w

@@ -12,8 +12,8 @@ use Rattle.ticketlock.specs.Rule.{LockWorld, KeepsRule}
 use Rattle.ticketlock.specs.Law.{made_with, Leads, IsAlone}
 
 -- the world of these words and views
-abbrev pub world_of : ℕ → ℕ → ℕ → List View → LockWorld
-world_of U R W views = record { draw_word = U; reader_word = R; writer_word = W; views = views }
+abbrev pub world_with : ℕ → ℕ → ℕ → List View → LockWorld
+world_with U R W views = record { draw_word = U; reader_word = R; writer_word = W; views = views }
 
 -- the view of a seat, of all that it knows
 abbrev pub view_in : Sight → View
@@ -30,12 +30,12 @@ steps_by seat (Took s k ∷ events) = if k == seat then s ∷ steps_by seat even
 steps_by seat (CutOff k ∷ events) = steps_by seat events
 
 -- the second list begins with the first
-abbrev pub Begins : List Event → List Event → Type 0
-Begins seen events = (more : List Event) × (events ≡ seen ++ more)
+abbrev pub IsBeginning : List Event → List Event → Type 0
+IsBeginning seen events = (more : List Event) × (events ≡ seen ++ more)
 
 -- the seat of a number has seen a beginning of the events, in which the steps that it took are all that it took
 abbrev pub IsKnownTo : List Event → ℕ → Sight → Type 0
-IsKnownTo events seat sight = Begins sight.seen events × (steps_by seat events ≡ sight.mine)
+IsKnownTo events seat sight = IsBeginning sight.seen events × (steps_by seat events ≡ sight.mine)
 
 -- each seat knows so of the events, which have no step of another
 abbrev pub AreKnown : List Event → List Sight → Type 0
@@ -45,7 +45,7 @@ AreKnown events sights = ((seat : ℕ) (sight : Sight) → get_elem? sights seat
 -- the rule of the table: some list of events has led to its words and views, and each seat knows so of it
 abbrev pub IsTraced : ℕ → State ℕ Sight → Type 0
 IsTraced seats s = (U : ℕ) × (R : ℕ) × (W : ℕ) × (s.words ≡ U ∷ R ∷ W ∷ []) × (events : List Event)
-    × IsReachedBy seats events (world_of U R W (map view_in s.views)) × AreKnown events s.views
+    × IsReachedBy seats events (world_with U R W (map view_in s.views)) × AreKnown events s.views
 
 -- What a seat has seen is a list of events that has led to a world in which it stands as it does. The steps that it
 -- took are all that the list has of it. By the law that world keeps the rule, and a writer is alone there.
@@ -56,20 +56,20 @@ KnowsRun sight = (seats : ℕ) × (seat : ℕ) × (last : LockWorld) × IsReache
 
 -- A seat has taken these steps: they are that many more of its own, what it has seen begins with what it had seen, and
 -- it knows the run.
-abbrev pub Follows : List Step → Sight → Sight → Type 0
-Follows steps before after =
-    Begins before.seen after.seen × (after.mine ≡ before.mine ++ steps) × KnowsRun after
+abbrev pub HasTaken : List Step → Sight → Sight → Type 0
+HasTaken steps before after =
+    IsBeginning before.seen after.seen × (after.mine ≡ before.mine ++ steps) × KnowsRun after
 
 -- it may have taken some steps: what it has seen begins with what it had seen, and so do its own steps
 abbrev pub IsFrom : Sight → Sight → Type 0
-IsFrom before after = Begins before.seen after.seen × (steps : List Step) × (after.mine ≡ before.mine ++ steps)
+IsFrom before after = IsBeginning before.seen after.seen × (steps : List Step) × (after.mine ≡ before.mine ++ steps)
 
 -- it has taken some steps
-abbrev pub GoesOn : Sight → Sight → Type 0
-GoesOn before after = (steps : List Step) × Follows steps before after
+abbrev pub HasTakenSome : Sight → Sight → Type 0
+HasTakenSome before after = (steps : List Step) × HasTaken steps before after
 
 -- the words at the end: some list of events has led to them, which the seat knows
 abbrev pub EndsIn : ℕ → ℕ → ℕ → Sight → Type 0
 EndsIn U R W sight = (seats : ℕ) × (views : List View) × (seat : ℕ) × (events : List Event)
-    × IsReachedBy seats events (world_of U R W views) × (get_elem? views seat ≡ some sight.view)
+    × IsReachedBy seats events (world_with U R W views) × (get_elem? views seat ≡ some sight.view)
     × IsKnownTo events seat sight

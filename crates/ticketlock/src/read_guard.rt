@@ -22,7 +22,7 @@ impl<'a, T: Fact + Drop> ReadGuard<'a, T> {
     ghost use Rattle.ticketlock.specs.declared.view.Step.TheVariants.{ReaderLeaves};
     ghost use Rattle.ticketlock.specs.Rule.{gone_out};
     ghost use Rattle.ticketlock.specs.Standing.{Becomes, sight_of, view_of};
-    ghost use Rattle.ticketlock.specs.Traces.{Follows};
+    ghost use Rattle.ticketlock.specs.Traces.{HasTaken};
     ghost use Rattle.ticketlock.specs.Guards.{Shows, first_of_read};
 
     /// The value, the same at each call while the guard lasts. It meets the fact.
@@ -39,7 +39,7 @@ impl<'a, T: Fact + Drop> ReadGuard<'a, T> {
     /// Leaves the lock.
     pub fn leave(self) -> Seat
         ensures becomes { Becomes self.entry.turn.place result.place (gone_out (view_of self.entry.turn.place)) }
-        ensures run { Follows (ReaderLeaves ∷ []) (sight_of self.entry.turn.place) (sight_of result.place) }
+        ensures run { HasTaken (ReaderLeaves ∷ []) (sight_of self.entry.turn.place) (sight_of result.place) }
     {
         let ReadGuard { words, turn, claim } = self;
         let back = read_no_more(claim);

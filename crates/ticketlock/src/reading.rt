@@ -4,7 +4,7 @@ ghost use Rattle.ticketlock.specs.declared.view.Kind.TheVariants.{Read};
 ghost use Rattle.ticketlock.specs.declared.view.Step.TheVariants.{Draws, ReaderLooks, ReaderEnters};
 ghost use Rattle.ticketlock.specs.Rule.{drawn_for};
 ghost use Rattle.ticketlock.specs.Standing.{Becomes, Notes, Enters, sight_of, view_of};
-ghost use Rattle.ticketlock.specs.Traces.{Follows};
+ghost use Rattle.ticketlock.specs.Traces.{HasTaken};
 ghost use Rattle.ticketlock.specs.Callers.{IsSeatOf, IsQueuedReadOf, IsTurnReadOf, IsReadOf, limit_of};
 
 use crate::fact::Fact;
@@ -23,7 +23,7 @@ impl<T: Fact + Drop> Lock<T> {
         requires { IsSeatOf self.now seat }
         ensures own { MatchResult result (IsQueuedReadOf self.now) (IsSeatOf self.now) }
         ensures ok { IfOk result (λ q. Becomes seat.place q.place (drawn_for Read q.ticket (view_of seat.place))) }
-        ensures run { IfOk result (λ q. Follows (Draws Read ∷ []) (sight_of seat.place) (sight_of q.place)) }
+        ensures run { IfOk result (λ q. HasTaken (Draws Read ∷ []) (sight_of seat.place) (sight_of q.place)) }
         ensures room { IfOk result (λ _. seat.place.draws < limit_of self.now) }
         ensures err { IfErr result (λ s. (s ≡ seat) × (seat.place.draws ≡ limit_of self.now)) }
     {
@@ -52,8 +52,8 @@ impl<T: Fact + Drop> Lock<T> {
         ensures err { IfErr result (λ q. Notes (view_of q.place).noted queued.place q.place) }
         ensures noted { IfErr result (λ q. (view_of q.place).noted ≢ q.ticket) }
         ensures run { MatchResult result
-            (λ t. Follows (ReaderLooks ∷ ReaderEnters ∷ []) (sight_of queued.place) (sight_of t.place))
-            (λ q. Follows (ReaderLooks ∷ []) (sight_of queued.place) (sight_of q.place)) }
+            (λ t. HasTaken (ReaderLooks ∷ ReaderEnters ∷ []) (sight_of queued.place) (sight_of t.place))
+            (λ q. HasTaken (ReaderLooks ∷ []) (sight_of queued.place) (sight_of q.place)) }
     {
         let QueuedRead {
             mut place,

@@ -4,7 +4,7 @@ ghost use Rattle.ticketlock.specs.declared.view.Kind.TheVariants.{Read, Write};
 ghost use Rattle.ticketlock.specs.declared.view.Step.TheVariants.{Draws, ReaderLooks, WriterLooks, ReaderEnters, ReaderLeaves, WriterCloses, WriterLeaves};
 ghost use Rattle.ticketlock.specs.Rule.{drawn_for, looked_at, gone_in, gone_out, newcomer};
 ghost use Rattle.ticketlock.specs.Places.{sight_cut, unseeing};
-ghost use Rattle.ticketlock.specs.Traces.{Follows};
+ghost use Rattle.ticketlock.specs.Traces.{HasTaken};
 
 use crate::view::Sight;
 use atomic_table::{Play, Seat, Split, Table, TableRule};
@@ -42,7 +42,7 @@ pub(crate) struct DrawRead;
 
 impl Play<u8, Sight> for DrawRead {
     ghost then = { λ _ me n you. (you.1 ≡ me.1) × (you.0.view ≡ drawn_for Read n me.0.view)
-        × Follows (Draws Read ∷ []) me.0 you.0 };
+        × HasTaken (Draws Read ∷ []) me.0 you.0 };
 }
 
 /// A draw to write: the ticket that was found.
@@ -50,7 +50,7 @@ pub(crate) struct DrawWrite;
 
 impl Play<u8, Sight> for DrawWrite {
     ghost then = { λ _ me n you. (you.1 ≡ me.1) × (you.0.view ≡ drawn_for Write n me.0.view)
-        × Follows (Draws Write ∷ []) me.0 you.0 };
+        × HasTaken (Draws Write ∷ []) me.0 you.0 };
 }
 
 /// A reader's look: the word that was found.
@@ -58,7 +58,7 @@ pub(crate) struct LookRead;
 
 impl Play<u8, Sight> for LookRead {
     ghost then = { λ _ me n you. (you.1 ≡ me.1) × (you.0.view ≡ looked_at n me.0.view)
-        × Follows (ReaderLooks ∷ []) me.0 you.0 };
+        × HasTaken (ReaderLooks ∷ []) me.0 you.0 };
 }
 
 /// A writer's look: the word that was found.
@@ -66,7 +66,7 @@ pub(crate) struct LookWrite;
 
 impl Play<u8, Sight> for LookWrite {
     ghost then = { λ _ me n you. (you.1 ≡ me.1) × (you.0.view ≡ looked_at n me.0.view)
-        × Follows (WriterLooks ∷ []) me.0 you.0 };
+        × HasTaken (WriterLooks ∷ []) me.0 you.0 };
 }
 
 /// An add to the reader word, by which a reader enters.
@@ -74,7 +74,7 @@ pub(crate) struct Enter;
 
 impl Play<u8, Sight> for Enter {
     ghost then = { λ _ me n you. (you.1 ≡ me.1) × (you.0.view ≡ gone_in me.0.view)
-        × Follows (ReaderEnters ∷ []) me.0 you.0 };
+        × HasTaken (ReaderEnters ∷ []) me.0 you.0 };
 }
 
 /// An add to the reader word, by which a writer lets the next reader enter.
@@ -82,7 +82,7 @@ pub(crate) struct Close;
 
 impl Play<u8, Sight> for Close {
     ghost then = { λ _ me n you. (you.1 ≡ me.1) × (you.0.view ≡ gone_in me.0.view)
-        × Follows (WriterCloses ∷ []) me.0 you.0 };
+        × HasTaken (WriterCloses ∷ []) me.0 you.0 };
 }
 
 /// An add to the writer word, by which a reader leaves.
@@ -90,7 +90,7 @@ pub(crate) struct Leave;
 
 impl Play<u8, Sight> for Leave {
     ghost then = { λ _ me n you. (you.1 ≡ me.1) × (you.0.view ≡ gone_out me.0.view)
-        × Follows (ReaderLeaves ∷ []) me.0 you.0 };
+        × HasTaken (ReaderLeaves ∷ []) me.0 you.0 };
 }
 
 /// An add to the writer word, by which a writer leaves.
@@ -98,7 +98,7 @@ pub(crate) struct End;
 
 impl Play<u8, Sight> for End {
     ghost then = { λ _ me n you. (you.1 ≡ me.1) × (you.0.view ≡ gone_out me.0.view)
-        × Follows (WriterLeaves ∷ []) me.0 you.0 };
+        × HasTaken (WriterLeaves ∷ []) me.0 you.0 };
 }
 
 /// Another seat is cut off.

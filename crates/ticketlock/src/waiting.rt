@@ -1,7 +1,7 @@
 //! The calls that wait: they repeat the steps of those that do not, and back off between two tries.
 ghost use Rattle.std.specs.Prelude.{◌≡◌, ◌+◌, ◌-◌, IfOk, IfErr};
 ghost use Rattle.ticketlock.specs.Standing.{IsSame, sight_of};
-ghost use Rattle.ticketlock.specs.Traces.{GoesOn};
+ghost use Rattle.ticketlock.specs.Traces.{HasTakenSome};
 ghost use Rattle.ticketlock.specs.Callers.{IsSeatOf, IsQueuedReadOf, IsQueuedWriteOf, IsTurnReadOf, IsTurnWriteOf, IsReadOf, IsWriteOf, first_of, limit_of};
 
 use crate::fact::Fact;
@@ -26,7 +26,7 @@ impl<T: Fact + Drop> Lock<T> {
         requires { IsQueuedReadOf self.now queued }
         ensures own { IsTurnReadOf self.now result }
         ensures same { IsSame queued.place result.place × (result.place.draws ≡ queued.place.draws) }
-        ensures run { GoesOn (sight_of queued.place) (sight_of result.place) }
+        ensures run { HasTakenSome (sight_of queued.place) (sight_of result.place) }
     {
         let mut patience = Patience::new();
         let mut waiting = queued;
@@ -62,7 +62,7 @@ impl<T: Fact + Drop> Lock<T> {
         requires { IsQueuedWriteOf self.now queued }
         ensures own { IsTurnWriteOf self.now result }
         ensures same { IsSame queued.place result.place × (result.place.draws ≡ queued.place.draws) }
-        ensures run { GoesOn (sight_of queued.place) (sight_of result.place) }
+        ensures run { HasTakenSome (sight_of queued.place) (sight_of result.place) }
     {
         let mut patience = Patience::new();
         let mut waiting = queued;
@@ -103,7 +103,7 @@ impl<T: Fact + Drop> Lock<T> {
         requires { IsSeatOf self.now seat }
         ensures own { IfOk result (IsReadOf self.now) }
         ensures same { IfOk result (λ g. IsSame seat.place g.turn.place × (g.turn.place.draws ≡ seat.place.draws + 1)) }
-        ensures run { IfOk result (λ g. GoesOn (sight_of seat.place) (sight_of g.turn.place)) }
+        ensures run { IfOk result (λ g. HasTakenSome (sight_of seat.place) (sight_of g.turn.place)) }
         ensures err { IfErr result (λ s. (s ≡ seat) × (seat.place.draws ≡ limit_of self.now)) }
     {
         let queued = self.draw_read(seat)?;
@@ -120,7 +120,7 @@ impl<T: Fact + Drop> Lock<T> {
         requires { IsSeatOf self.now seat }
         ensures own { IfOk result (IsWriteOf self.now) }
         ensures same { IfOk result (λ g. IsSame seat.place g.turn.place × (g.turn.place.draws ≡ seat.place.draws + 1)) }
-        ensures run { IfOk result (λ g. GoesOn (sight_of seat.place) (sight_of g.turn.place)) }
+        ensures run { IfOk result (λ g. HasTakenSome (sight_of seat.place) (sight_of g.turn.place)) }
         ensures fact { IfOk result (λ g. T.fact (first_of self.now) g.value) }
         ensures err { IfErr result (λ s. (s ≡ seat) × (seat.place.draws ≡ limit_of self.now)) }
     {

@@ -6,7 +6,7 @@ ghost use Rattle.ticketlock.specs.Rule.{drawn_for, looked_at, gone_in, gone_out,
 ghost use Rattle.ticketlock.specs.Places.{opener, sight_cut, unseeing};
 ghost use Rattle.ticketlock.specs.declared.view.Step.TheVariants.{Draws, ReaderLooks, WriterLooks, ReaderEnters, ReaderLeaves, WriterCloses, WriterLeaves};
 ghost use Rattle.ticketlock.specs.Standing.{IsAt, IsSame, Becomes, stage_of, sight_of, view_of};
-ghost use Rattle.ticketlock.specs.Traces.{Follows, EndsIn};
+ghost use Rattle.ticketlock.specs.Traces.{HasTaken, EndsIn};
 ghost use Rattle.ticketlock.specs.Taking.{IsDraw, IsReaderLook, IsWriterLook, IsEntry, IsReaderLeave, IsWriterClose, IsWriterLeave};
 
 use crate::slots::Back;
@@ -88,7 +88,7 @@ impl Words {
         requires room { place.old.draws < self.now.limit }
         ensures becomes { Becomes place.old place.new (drawn_for Read result (view_of place.old)) }
         ensures takes { IsDraw Read result place.old place.new }
-        ensures run { Follows (Draws Read ∷ []) (sight_of place.old) (sight_of place.new) }
+        ensures run { HasTaken (Draws Read ∷ []) (sight_of place.old) (sight_of place.new) }
     {
         let Place { token, draws } = place;
         let ticket = self.table.shared.fetch_add::<DrawRead>(token, DRAW_WORD, 1);
@@ -103,7 +103,7 @@ impl Words {
         requires room { place.old.draws < self.now.limit }
         ensures becomes { Becomes place.old place.new (drawn_for Write result (view_of place.old)) }
         ensures takes { IsDraw Write result place.old place.new }
-        ensures run { Follows (Draws Write ∷ []) (sight_of place.old) (sight_of place.new) }
+        ensures run { HasTaken (Draws Write ∷ []) (sight_of place.old) (sight_of place.new) }
     {
         let Place { token, draws } = place;
         let ticket = self
@@ -120,7 +120,7 @@ impl Words {
         requires waits { (t : ℕ) × (stage_of place.old ≡ Waiting t Read) }
         ensures becomes { Becomes place.old place.new (looked_at result (view_of place.old)) }
         ensures takes { IsReaderLook result place.old place.new }
-        ensures run { Follows (ReaderLooks ∷ []) (sight_of place.old) (sight_of place.new) }
+        ensures run { HasTaken (ReaderLooks ∷ []) (sight_of place.old) (sight_of place.new) }
     {
         let Place { token, draws: _ } = place;
         self.table.shared.load::<LookRead>(token, READER_WORD)
@@ -132,7 +132,7 @@ impl Words {
         requires waits { (t : ℕ) × (stage_of place.old ≡ Waiting t Write) }
         ensures becomes { Becomes place.old place.new (looked_at result (view_of place.old)) }
         ensures takes { IsWriterLook result place.old place.new }
-        ensures run { Follows (WriterLooks ∷ []) (sight_of place.old) (sight_of place.new) }
+        ensures run { HasTaken (WriterLooks ∷ []) (sight_of place.old) (sight_of place.new) }
     {
         let Place { token, draws: _ } = place;
         self.table.shared.load::<LookWrite>(token, WRITER_WORD)
@@ -144,7 +144,7 @@ impl Words {
         requires next { (t : ℕ) × (stage_of place.old ≡ Next t) }
         ensures becomes { Becomes place.old place.new (gone_in (view_of place.old)) }
         ensures takes { IsEntry place.old place.new }
-        ensures run { Follows (ReaderEnters ∷ []) (sight_of place.old) (sight_of place.new) }
+        ensures run { HasTaken (ReaderEnters ∷ []) (sight_of place.old) (sight_of place.new) }
     {
         let Place { token, draws: _ } = place;
         self.table.shared.fetch_add::<Enter>(token, READER_WORD, 1);
@@ -156,7 +156,7 @@ impl Words {
         requires reads { (t : ℕ) × (stage_of place.old ≡ Reading t) }
         ensures becomes { Becomes place.old place.new (gone_out (view_of place.old)) }
         ensures takes { IsReaderLeave place.old place.new }
-        ensures run { Follows (ReaderLeaves ∷ []) (sight_of place.old) (sight_of place.new) }
+        ensures run { HasTaken (ReaderLeaves ∷ []) (sight_of place.old) (sight_of place.new) }
     {
         let Place { token, draws: _ } = place;
         self.table.shared.fetch_add::<Leave>(token, WRITER_WORD, 1);
@@ -168,7 +168,7 @@ impl Words {
         requires writes { (t : ℕ) × (stage_of place.old ≡ Writing t) }
         ensures becomes { Becomes place.old place.new (gone_in (view_of place.old)) }
         ensures takes { IsWriterClose place.old place.new }
-        ensures run { Follows (WriterCloses ∷ []) (sight_of place.old) (sight_of place.new) }
+        ensures run { HasTaken (WriterCloses ∷ []) (sight_of place.old) (sight_of place.new) }
     {
         let Place { token, draws: _ } = place;
         self.table.shared.fetch_add::<Close>(token, READER_WORD, 1);
@@ -180,7 +180,7 @@ impl Words {
         requires closes { (t : ℕ) × (stage_of place.old ≡ Closing t) }
         ensures becomes { Becomes place.old place.new (gone_out (view_of place.old)) }
         ensures takes { IsWriterLeave place.old place.new }
-        ensures run { Follows (WriterLeaves ∷ []) (sight_of place.old) (sight_of place.new) }
+        ensures run { HasTaken (WriterLeaves ∷ []) (sight_of place.old) (sight_of place.new) }
     {
         let Place { token, draws: _ } = place;
         self.table.shared.fetch_add::<End>(token, WRITER_WORD, 1);

@@ -23,7 +23,7 @@ impl<'a, T: Fact + Drop> WriteGuard<'a, T> {
     ghost use Rattle.ticketlock.specs.declared.view.Step.TheVariants.{WriterCloses, WriterLeaves};
     ghost use Rattle.ticketlock.specs.Rule.{gone_in, gone_out};
     ghost use Rattle.ticketlock.specs.Standing.{Becomes, sight_of, view_of};
-    ghost use Rattle.ticketlock.specs.Traces.{Follows};
+    ghost use Rattle.ticketlock.specs.Traces.{HasTaken};
     ghost use Rattle.ticketlock.specs.Guards.{first_of_write};
     ghost use Rattle.ticketlock.specs.Lending.{LendsValue};
 
@@ -47,7 +47,7 @@ impl<'a, T: Fact + Drop> WriteGuard<'a, T> {
         requires { T.fact (first_of_write self) self.value }
         ensures becomes { Becomes self.entry.turn.place result.place
             (gone_out (gone_in (view_of self.entry.turn.place))) }
-        ensures run { Follows (WriterCloses ∷ WriterLeaves ∷ []) (sight_of self.entry.turn.place)
+        ensures run { HasTaken (WriterCloses ∷ WriterLeaves ∷ []) (sight_of self.entry.turn.place)
             (sight_of result.place) }
     {
         let WriteGuard {

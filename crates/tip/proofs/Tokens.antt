@@ -34,10 +34,12 @@ token = vstruct (vcons (vstruct vnil) vnil)
 abbrev pub Token : RattleType
 Token = Struct record { name = []; args = []; types = []; fields = marker.the_row unit ∷ [] }
 
+-- where a count is says nothing of keys
 pub at_keyless : (q : Share) (γ n : ℕ) → Keyless (is_at q γ n)
 unfolding latest
 at_keyless q γ n = tt
 
+-- nor does what a count has reached
 pub reached_keyless : (γ n : ℕ) → Keyless (has_reached γ n)
 unfolding at_least
 reached_keyless γ n = tt

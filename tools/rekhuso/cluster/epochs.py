@@ -133,13 +133,15 @@ class Before:
             f"no pool {number}" for number in sorted(gone | grown)
         ]
 
-    def take(self, epoch: int, profile: str, change: Change) -> EpochParts:
-        """What is other after a change, which makes the map of an epoch."""
+    def take(self, row: StoredChange, change: Change) -> EpochParts:
+        """What is other after the change of a row, and what stands beside it."""
         grown, weights, crush = self.take_pools(change), self.take_weights(change), change.get("new_crush")
         down, up = self.take_states(change)
         return {
-            "epoch": epoch,
-            "profile": profile,
+            "epoch": row.epoch,
+            "made": row.note.made or None if row.note else None,
+            "by": row.note.by if row.note else None,
+            "profile": row.profile,
             "went_down": down,
             "came_up": up,
             "went_out": [osd for osd, _, now in weights if now == 0],
@@ -164,4 +166,4 @@ def epochs_of(first: Map, journal: StoredJournal) -> Iterator[EpochParts]:
         unknown = before.unknown(change)
         if unknown:
             raise Unopened(journal.path, f"row {row.epoch}: {', '.join(unknown)}")
-        yield before.take(row.epoch, row.profile, change)
+        yield before.take(row, change)

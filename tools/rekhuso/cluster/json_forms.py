@@ -188,10 +188,13 @@ class ExceptionChangeParts(TypedDict):
 
 class EpochParts(TypedDict):
     """What is other in the map of an epoch than in the one before. Reweights are from 0 to 1: those with which OSDs
-    came in, and of OSDs that are in before and after, the two.
+    came in, and of OSDs that are in before and after, the two. `made` is when the change was made, in milliseconds
+    since 1970 by the clock of the machine, and `by` who made it, where the store tells.
     """
 
     epoch: int
+    made: int | None
+    by: str | None
     profile: str
     went_down: list[int]
     came_up: list[int]

@@ -7,7 +7,7 @@ import json
 from ..faults import Refused, Trouble
 from ..files import text_of
 from ..program.answers import Up
-from ..program.maps import Map, Program, groups_of
+from ..program.maps import Map, Program
 from ..program.monitor import Monitor
 from .dump_forms import dump_name
 
@@ -51,4 +51,4 @@ def map_with_sets(path: str, program: Program) -> tuple[Map, dict[str, Up]]:
     text, monitor = map_monitor(path, program)
     with monitor:
         value: Map = json.loads(text)
-        return value, monitor.ups(groups_of(value))
+        return value, monitor.pool_ups(value["pools"])

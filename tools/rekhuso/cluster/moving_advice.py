@@ -8,7 +8,7 @@ from typing import Any
 
 from ..faults import Fault
 from ..program.answers import Up
-from ..program.maps import Program, altered, groups_of
+from ..program.maps import Program, altered
 from ..words import counted, share_words
 from .aftermath import cleaned_at, with_exceptions
 from .cluster import Cluster, KINDS_BY_TYPE
@@ -33,7 +33,7 @@ def ups_of(cluster: Cluster, program: Program) -> dict[str, Up]:
     found: dict[str, Up] = {}
     for value in map(map_of, map_clusters(cluster)):
         with monitor_of(value, program) as monitor:
-            found.update(monitor.ups(groups_of(value)))
+            found.update(monitor.pool_ups(value["pools"]))
     return found
 
 

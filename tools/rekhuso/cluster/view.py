@@ -11,7 +11,7 @@ from ..faults import Fault
 from ..files import json_of, text_of
 from ..program.answers import Up
 from ..program.map_forms import list_of, number_between, object_of, one_of, tuple_of
-from ..program.maps import Bucket, Map, Pool, Program, altered, groups_of
+from ..program.maps import Bucket, Map, Pool, Program, altered
 from .affinity import affinities_of, all_with_affinity
 from .cluster import Cluster
 from .conversion import bucket_of, map_of, monitor_of
@@ -230,7 +230,7 @@ def sets_in(view: ClusterView, program: Program) -> dict[str, Up]:
     sets: dict[str, Up] = {}
     for value in view.maps:
         with monitor_of(value, program) as monitor:
-            sets.update(monitor.ups(groups_of(value)))
+            sets.update(monitor.pool_ups(value["pools"]))
     return as_in_ceph(view, sets, program)
 
 

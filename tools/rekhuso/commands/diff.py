@@ -20,7 +20,7 @@ from ..faults import Refused
 from ..output.flow_words import pair_lines
 from ..output.json_output import put_json
 from ..program.answers import Up
-from ..program.maps import Change, Map, groups_of, needs_stock, written
+from ..program.maps import Change, Map, needs_stock, written
 from ..program.questions import raw_answers
 from ..values import SLOTS
 from ..words import counted
@@ -62,7 +62,7 @@ def side_of(source: Source) -> Side:
     found = imported(source.dumps(), True)
     value, names = found.maps[0], names_in(source.names) if source.names else found.cluster.all_names()
     with monitor_of(value, source.program) as monitor:
-        return Side(value, monitor.ups(groups_of(value)), names, named_primaries(found.cluster.osd_dump))
+        return Side(value, monitor.pool_ups(value["pools"]), names, named_primaries(found.cluster.osd_dump))
 
 
 def check_change(old: Map, new: Map, change: Change, source: Source) -> None:

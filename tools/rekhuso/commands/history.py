@@ -1,10 +1,10 @@
 """`history`: what changed in a store from epoch to epoch, or with --at the map of one of its epochs.
 
 A store is the file in which `osdmapstore` keeps a map and its changes: each start of the program leaves the last 1,024
-there, or as many as its option --keep said last; and above them stands the number of the store's life, by which two
-stores of the same epochs are told apart. A copy of the file and of its log is read, also while a program has the
-store open, and nothing is written into them or beside them. The map of an epoch is made by the program, change by
-change.
+there, or as many as its option --keep said last, each with the time at which it was made, by the clock of the machine;
+and above them stands the number of the store's life, by which two stores of the
+same epochs are told apart. A copy of the file and of its log is read, also while a program has the store open, and
+nothing is written into them or beside them. The map of an epoch is made by the program, change by change.
 """
 
 from __future__ import annotations

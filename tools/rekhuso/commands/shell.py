@@ -33,6 +33,7 @@ from .arguments import ABOUT_FILES, FILES, Arguments, Commands, Files, add_names
 
 HELP = {
     "up": "up PG: the up set of a group and its primary, as up 1.0",
+    "ups": "ups POOL: the up sets of all groups of a pool, by number from 0 on; under --stock",
     "count": "count OSD: in how many groups' up sets an OSD stands",
     "groups": "groups OSD: in which groups' up sets an OSD stands",
     "epoch": "epoch: the epoch of the map",
@@ -45,6 +46,7 @@ HELP = {
     "and what an OSD counts as having beside its groups",
     "follow": "follow: the session's follower goes on to the last epoch",
     "fup": "fup PG: the up set of a group by the follower's map",
+    "fups": "fups POOL: the up sets of all groups of a pool by the follower's map; under --stock",
     "fkept": "fkept PG: what Ceph's monitor would leave of a group's exceptions at the follower's map; under --stock",
     "fdump": "fdump: the follower's map as one line of JSON",
     "save": "save FILE: writes the map as it is, for a later start",

@@ -2,6 +2,7 @@
 
 from __future__ import annotations
 
+import time
 from collections.abc import Iterable
 
 from ..cluster.json_forms import EpochParts, ExceptionChangeParts, GrowthParts
@@ -12,6 +13,8 @@ from ..words import counted, listed, some
 
 # How many reweights or exceptions of a kind are told one by one.
 MOST = 4
+# The second behind the last that has a date of four digits.
+LAST_DATE = 253402300800
 
 
 def life_lines(journal: StoredJournal) -> list[str]:
@@ -98,9 +101,18 @@ def exception_words(key: str, parts: ExceptionChangeParts) -> list[str]:
     return [f"{key} {word}: {some(own, MOST)}" for word, own in told.items() if own]
 
 
+def origin_words(parts: EpochParts) -> str:
+    """When a change was made, and by whom, as far as that is told."""
+    made, by = parts["made"], parts["by"]
+    found = ""
+    if made is not None and made // 1000 < LAST_DATE:
+        found += time.strftime(" at %Y-%m-%dT%H:%M:%SZ", time.gmtime(made // 1000))
+    return found if by is None else f"{found} by {by}"
+
+
 def epoch_line(parts: EpochParts, names: Names) -> str:
-    """What an epoch changes, in a line."""
+    """What an epoch changes, in a line, and when and by whom."""
     found = map_words(parts, names) + state_words(parts, names) + weight_words(parts, names)
     found += exception_words("pg_upmap", parts["pg_upmap"])
     found += exception_words("pg_upmap_items", parts["pg_upmap_items"])
-    return f"epoch {parts['epoch']}: {'; '.join(found) or 'nothing changed'}"
+    return f"epoch {parts['epoch']}{origin_words(parts)}: {'; '.join(found) or 'nothing changed'}"

@@ -12,22 +12,23 @@ from collections.abc import Iterable, Mapping
 from itertools import accumulate, islice
 from operator import itemgetter
 
-from .loads import STEP_PARTS
+from .loads import Laid, STEP_PARTS
 
-# By how much the program may see two OSDs differ otherwise than it is reckoned here.
+# By how much the program may see two OSDs differ otherwise than it is reckoned here: it asks for a little more than a
+# difference, and where a pool's shares are not those by weight, what it is told of that is in whole steps.
 ROUNDING = 2 * STEP_PARTS
 # How far each OSD was above its share when a plan ended, and is now.
 Ends = tuple[int, int]
 
 
-def differ_more(full: list[Ends], low: list[Ends], apart: int) -> bool:
-    """Whether an OSD of the first and one of the second, which ascend by what they are now, differ by more than so much
-    now and did not before: neither surely by more than that, nor by as much as now.
+def differ_more(full: list[Ends], low: list[Ends], apart: int, least: int) -> bool:
+    """Whether an OSD of the first and one of the second, which ascend by what they are now, differ by more than the
+    least now and did not before: neither surely by enough for a move, nor by as much as now.
     """
     lows: list[int] = [now for _, now in low]
     tops: list[int] = list(accumulate([was for was, _ in low], max))
     for was, now in full:
-        count = bisect_left(lows, now - apart + ROUNDING)
+        count = bisect_left(lows, now - least)
         if count and was - tops[count - 1] <= apart + ROUNDING:
             near = (other for other in islice(low, count) if was - other[0] <= apart + ROUNDING)
             if any(was - was_low < now - now_low for was_low, now_low in near):
@@ -52,14 +53,17 @@ class AtRest:
         for number in numbers:
             self.found.pop(number, None)
 
-    def has_move(self, number: int, above: Mapping[int, int], counts: Mapping[int, int]) -> bool:
-        """Whether a pool may have a move, where OSDs are so far above their shares and have so many groups of it. The
-        OSDs stand in the same order at each look.
+    def has_move(self, number: int, above: Mapping[int, int], laid: Laid, is_rough: bool = False) -> bool:
+        """Whether a pool that lies so may have a move, or but for rounding might, where OSDs are so far above their
+        shares. The OSDs stand in the same order at each look.
         """
-        least = min(above.values(), default=0) + self.apart - ROUNDING
-        full = [osd for osd, count in counts.items() if count > 0 and above.get(osd, least) > least]
+        apart = self.apart - ROUNDING if laid.offset or is_rough else self.apart
+        least = min(above.values(), default=0) + apart
+        if max(above.values(), default=0) <= least:
+            return False
+        full = [osd for osd, count in laid.counts.items() if count > 0 and above.get(osd, least) > least]
         if number not in self.found or not full:
             return bool(full)
-        was, most = dict(zip(above, self.found[number])), max(map(above.__getitem__, full)) - self.apart + ROUNDING
+        was, most = dict(zip(above, self.found[number])), max(map(above.__getitem__, full)) - apart
         low = sorted(((was[osd], now) for osd, now in above.items() if now < most), key=itemgetter(1))
-        return differ_more([(was[osd], above[osd]) for osd in full], low, self.apart)
+        return differ_more([(was[osd], above[osd]) for osd in full], low, self.apart, apart)

@@ -2,8 +2,10 @@
 
 from __future__ import annotations
 
-from collections.abc import Mapping, Sequence
+from collections.abc import Callable, Mapping, Sequence
 from dataclasses import dataclass
+from itertools import repeat
+from operator import truediv
 
 from ..cluster.evenness import Spread
 from ..values import SLOTS
@@ -54,10 +56,14 @@ class Filling:
         """Takes what the OSDs have before the plan."""
         self.measure, self.has = measure, dict(has)
         self.most = {osd: max(has.get(osd, 0), measure.end.get(osd, 0)) for osd in {*has, *measure.end}}
+        self.osds = measure.spread.osds()
+        self.shares = [measure.spread.share[osd] for osd in self.osds]
+        self.end = self.fullest(measure.end)
 
     def fullest(self, has: Mapping[int, float]) -> float:
         """The greatest ratio of what an OSD has to its share."""
-        return Spread(has, self.measure.spread.share).fullest()
+        own: Callable[[int, float], float] = has.get
+        return max(map(truediv, map(own, self.osds, repeat(0.0)), self.shares), default=0.0)
 
     def fault(self, step: Step, high: Mapping[int, float], bound: float) -> str | None:
         """Why a step may not come into a part; None where it may."""
@@ -78,7 +84,7 @@ class Filling:
         passes a bound, and how; None where there is none. One step alone may pass it, where no disk is known, and steps
         from which no OSD gets emptier.
         """
-        bound, high = max(self.fullest(self.has), self.fullest(self.measure.end), EVEN), dict(self.has)
+        bound, high = max(self.fullest(self.has), self.end, EVEN), dict(self.has)
         found: tuple[str, str] | None = None
         for step in steps:
             for osd in step.come:

@@ -66,7 +66,7 @@ class Busy:
 
     def __init__(self, most: MostBusy) -> None:
         """Of a part that begins."""
-        self.most = most
+        self.most, self.is_counted = most, most.is_any
         self.osds: Counter[int] = Counter()
         self.hosts: Counter[int] = Counter()
 
@@ -82,8 +82,9 @@ class Busy:
 
     def take(self, osds: set[int]) -> None:
         """Some OSDs take part in one more move."""
-        self.osds.update(osds)
-        self.hosts.update(self.hosts_of(osds))
+        if self.is_counted:
+            self.osds.update(osds)
+            self.hosts.update(self.hosts_of(osds))
 
 
 def holders_in(tree: Map) -> dict[int, int]:

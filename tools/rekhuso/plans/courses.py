@@ -75,7 +75,7 @@ class Course:
 
     def sets(self, session: Session) -> Sets:
         """The set of each group."""
-        return {group: up.places for group, up in session.ups(self.groups).items()}
+        return session.pool_sets(self.first["pools"])
 
     def near(self, command: PrintedCommand) -> list[int]:
         """The OSDs that a command names, and those that the group's exceptions have named before it."""

@@ -36,35 +36,35 @@ class Levels:
     def __init__(self, has: Mapping[int, float], share: Mapping[int, float], floor: float) -> None:
         """Takes what OSDs have, their shares, and the floor."""
         self.has, self.share, self.floor = dict(has), share, floor
-        self.heap = [(-self.level(osd), osd) for osd in has]
+        self.now = {osd: self.level(osd, 0.0) for osd in has}
+        self.heap = [(-level, osd) for osd, level in self.now.items()]
         heapify(self.heap)
 
-    def level(self, osd: int, more: float = 0.0) -> float:
+    def level(self, osd: int, more: float) -> float:
         """How full an OSD is that has so much more; one without a share is not counted."""
         share = self.share.get(osd, 0.0)
         return (self.has.get(osd, 0.0) + more) / share if share > 0 else 0.0
 
     def move(self, shift: Shift, sign: int) -> None:
         """Takes a step (1), or takes it back (-1)."""
+        has, now = self.has, self.now
         for osds, more in ((shift.come, sign * shift.size), (shift.go, -sign * shift.size)):
             for osd in osds:
-                self.has[osd] = self.has.get(osd, 0.0) + more
+                has[osd] = has.get(osd, 0.0) + more
         for osd in {*shift.come, *shift.go}:
-            heappush(self.heap, (-self.level(osd), osd))
+            now[osd] = self.level(osd, 0.0)
+            heappush(self.heap, (-now[osd], osd))
 
     def top(self, without: Collection[int] = ()) -> float:
         """How full the fullest OSD is, of those that are not left aside, and at least the floor."""
-        aside, found = dict[int, float](), self.floor
-        while self.heap:
-            level, osd = self.heap[0]
-            if level == -self.level(osd) and osd not in without:
-                found = max(-level, found)
-                break
-            heappop(self.heap)
-            if level == -self.level(osd):
+        aside, heap, now = dict[int, float](), self.heap, self.now
+        while heap and (heap[0][0] != -now[heap[0][1]] or heap[0][1] in without):
+            level, osd = heappop(heap)
+            if level == -now[osd]:
                 aside[osd] = level
+        found = max(-heap[0][0], self.floor) if heap else self.floor
         for osd, level in aside.items():
-            heappush(self.heap, (level, osd))
+            heappush(heap, (level, osd))
         return found
 
 
@@ -94,7 +94,8 @@ class Backwards:
 
     def peak(self, group: str) -> float:
         """How full an OSD is before a step from which it goes."""
-        return max((self.levels.level(osd, self.left[group].size) for osd in self.left[group].go), default=0.0)
+        shift, level = self.left[group], self.levels.level
+        return max([level(osd, shift.size) for osd in shift.go], default=0.0)
 
     def rank(self, group: str) -> None:
         """Ranks a step by how full an OSD is before it now."""

@@ -39,7 +39,7 @@ class Fullness:
         self.load[leaves] -= size
         self.load[comes] += size
 
-    def gain(self, full: int, osd: int, size: int) -> float:
+    def gain(self, full: int, osd: int, size: float) -> float:
         """By how much the sum of want * (ratio - 1) ** 2 falls where so much goes from an OSD to another; 0 where the
         other would be as full then.
         """

@@ -21,7 +21,7 @@ from ..cluster.reasons import reasons
 from ..cluster.releases import least_client
 from ..cluster.unrest import Unrest, losing, unrest_of
 from ..faults import Fault
-from ..program.maps import Exceptions, Map, Program, entries_of, group_key, groups_in, groups_of, with_all_up
+from ..program.maps import Exceptions, Map, Program, entries_of, group_key, groups_in, with_all_up
 from ..values import SLOTS
 from ..words import counted
 from .group_filter import ALL_GROUPS, GroupFilter
@@ -116,7 +116,7 @@ def mapped_sets(cluster: Cluster, program: Program) -> dict[str, list[int | None
     for part in map_clusters(cluster):
         value = with_all_up(map_of(part))
         with monitor_of(value, program) as monitor:
-            found.update({group: up.places for group, up in monitor.ups(groups_of(value)).items()})
+            found.update(monitor.pool_sets(value["pools"]))
     return found
 
 

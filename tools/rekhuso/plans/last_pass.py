@@ -11,16 +11,17 @@ long as nothing gets less even than it was before the plan.
 
 from __future__ import annotations
 
-from bisect import bisect_left
 from collections.abc import Callable, Iterable, Iterator
 from dataclasses import replace
+from functools import partial
 from itertools import islice
 
 from ..cluster.evenness import Spread, sums_by_osd
 from ..cluster.pool_data import BYTE_PARTS
-from ..program.maps import entries_of, groups_in
+from ..program.maps import entries_of
 from .blocks import MapBlocks
 from .byte_aims import ByteAims
+from .exchanges import Backs, BestExchanges, Exchange, Limit, OsdPair
 from .fullness import Fullness
 from .loads import GROUP_PARTS
 from .mend import Gauge
@@ -33,14 +34,16 @@ from .single_moves import moved, take_back
 # others, or as far as they were before the plan.
 NEAR, FAR = 0.05, 0.1
 POOL, ALL_POOLS, FAR_POOL, FAR_ALL_POOLS = (GROUP_PARTS * groups for groups in (2, 3, 4, 5))
-# To how many of the emptiest OSDs a group may go at first, rather than to any; how many groups, and how many exchanges
-# are tried; and how many of the sizes that are nearest to the best one.
-FEW, GROUPS, TRIED, NEAREST = 32, 3, 64, 2
+# To how many of the emptiest OSDs a group may go at first, rather than to any; and how many groups, and how many
+# exchanges are tried.
+FEW, GROUPS, TRIED = 32, 3, 64
+# What is more than rounding, of what an exchange gains.
+MORE = 1 + 1e-9
 
-# A move, the best first: what is lost by it, its pool, the OSD to which something goes, and how much that is. Of an
-# exchange also the pool of which something comes back, and how much.
+# A move, the best first: what is lost by it, its pool, the OSD to which something goes, and how much that is.
 Way = tuple[float, int, int, int]
-Exchange = tuple[float, int, int, int, int, int]
+# A pool of which something may go, with what its places hold.
+Going = tuple[int, list[int]]
 # A pool of which something may come back, what its places hold, and whether it stays near its shares by that.
 Back = tuple[int, list[int], bool]
 
@@ -53,7 +56,7 @@ def pools_in(live: Live, fixed: Iterable[str]) -> Iterator[PoolPlaces]:
     pairs: dict[str, list[list[int]]] = dict(entries_of(live.session.dump(), "pg_upmap_items"))
     explicit = {group for group, _ in entries_of(live.value, "pg_upmap")}
     for pool in live.pools.values():
-        ups = live.session.ups(groups_in(pool))
+        ups = live.session.pool_ups([pool])
         own = PoolPlaces(live, pool, blocks.of_pool(pool), list(ups.values()), pairs)
         left = explicit.union(fixed) if len(own.blocks) > 1 else set(fixed)
         own.fixed = {at for at, group in enumerate(ups) if group in left}
@@ -197,7 +200,7 @@ class LastPass:
         """The moves from an OSD by which something is gained, the best first: all, or those that gain more than any of
         a pool which was passed over, as its places are too small for the best move.
         """
-        found: list[Way] = []
+        found, limits = list[Way](), dict[int, Limit]()
         best, floor, rise = 0.0, 0.0, 2 * (self.full.ratio(full) - self.full.ratio(self.ranked[0]))
         there = [(own, [size for size, _ in own.by_size(full)]) for own in self.movable if own.on.get(full)]
         for own, sizes in sorted(there, key=lambda entry: -entry[1][0]):
@@ -206,39 +209,45 @@ class LastPass:
                 continue
             for osd in self.near(own, full, few):
                 if self.keeps(own.number, full, osd) and self.keeps_all(full, osd):
-                    even = (size for size in sizes if self.stays_even(full, osd, 1, size))
-                    found += [(-self.full.gain(full, osd, size), own.number, osd, size) for size in even]
+                    limit = limits.setdefault(osd, Limit(partial(self.stays_even, full, osd, 1)))
+                    found += [
+                        (-self.full.gain(full, osd, size), own.number, osd, size) for size in sizes if limit.lets(size)
+                    ]
             best = max(best, -min(found, default=(0.0,))[0])
         return sorted(way for way in found if way[0] < -floor)
 
     def exchanges(self, full: int) -> list[Exchange]:
-        """The exchanges between an OSD and others by which something is gained, the best first."""
-        found: list[Exchange] = []
-        backs: dict[int, list[Back]] = {}
+        """The best exchanges between an OSD and others by which something is gained, in their order."""
+        found, going = BestExchanges(TRIED), self.going_from(full)
+        for osd in (osd for osd in self.ranked if osd in going):
+            pair = OsdPair(self.full, full, osd, Limit(partial(self.stays_even, full, osd, 0)))
+            if not found.is_beaten(pair.gain(pair.best) * MORE):
+                self.exchange(found, pair, going[osd])
+        return found.found
+
+    def going_from(self, full: int) -> dict[int, list[Going]]:
+        """The pools of which something may go from an OSD, by the OSDs to which it may."""
+        found: dict[int, list[Going]] = {}
         for own in self.movable:
             sizes = [size for size, _ in own.by_size(full)] if own.on.get(full) else []
             for osd in self.near(own, full, FEW) if sizes else []:
-                if osd not in backs:
-                    backs[osd] = list(self.back_to(full, osd))
-                is_near = self.keeps(own.number, full, osd)
-                back = [entry[:2] for entry in backs[osd] if entry[0] == own.number or (is_near and entry[2])]
-                found += self.exchanged(own.number, full, osd, sizes, back)
-        return sorted(found)
+                found.setdefault(osd, []).append((own.number, sizes))
+        return found
 
-    def exchanged(
-        self, number: int, full: int, osd: int, sizes: list[int], back: list[tuple[int, list[int]]]
-    ) -> Iterator[Exchange]:
-        """The exchanges between two OSDs by which something is gained, where something of these sizes goes of a pool,
-        and of some pools something may come back.
+    def exchange(self, found: BestExchanges, pair: OsdPair, going: list[Going]) -> None:
+        """Puts the exchanges between two OSDs to those that are found: a pool by which it gets farther from its shares
+        changes places with its own groups alone.
         """
-        best = self.full.best_size(full, osd)
-        for other, less in back:
+        backs = {number: (sizes, is_near) for number, sizes, is_near in self.back_to(pair.leaves, pair.comes)}
+        near = Backs((number, sizes) for number, (sizes, is_near) in backs.items() if is_near)
+        for number, sizes in going:
+            is_near = self.keeps(number, pair.leaves, pair.comes)
+            there = [near] if is_near else []
+            if number in backs and not (is_near and backs[number][1]):
+                there.append(Backs([(number, backs[number][0])]))
             for size in sizes:
-                at = bisect_left(less, size - best)
-                for own in less[max(at - NEAREST, 0) : at + NEAREST]:
-                    gain = self.full.gain(full, osd, size - own)
-                    if gain > 0 and self.stays_even(full, osd, 0, size - own):
-                        yield -gain, number, osd, size, other, own
+                for own in there:
+                    pair.put(found, number, size, own)
 
     def back_to(self, full: int, osd: int) -> Iterator[Back]:
         """The pools of which groups may come from an OSD to a fuller one, with what these hold, and whether such a pool
@@ -301,7 +310,7 @@ class LastPass:
 
     def by_exchange(self, full: int) -> bool:
         """Whether something has gone from an OSD as two groups have changed places."""
-        for _, number, osd, size, other, less in self.exchanges(full)[:TRIED]:
+        for _, number, osd, size, other, less in self.exchanges(full):
             own, back = self.pools[number], self.pools[other]
             gone = self.goes(own, size, full, osd) if self.free(back, less, osd, full) else None
             if gone is None:

@@ -160,7 +160,9 @@ class Loads:
             nearest = [(2 * parts + one) // (2 * one) for parts in each]
         else:
             nearest = [(groups[osd] - more + STEP_PARTS) >> HALF_BITS for osd, more in own.items()]
-        return dict(zip(own, [-half if parts < -half else half if parts > half else parts for parts in nearest]))
+        if nearest and not -half <= min(nearest) <= max(nearest) <= half:
+            nearest = [-half if parts < -half else half if parts > half else parts for parts in nearest]
+        return dict(zip(own, nearest))
 
     def told(self, number: int, half: int) -> dict[int, int]:
         """What the program is told that OSDs carry: what they do, and by how much their shares by weight are above

@@ -8,7 +8,7 @@ from __future__ import annotations
 
 from collections.abc import Iterator
 
-from ..program.maps import Pool, entries_of, groups_in
+from ..program.maps import Pool, entries_of
 from .blocks import Block, MapBlocks
 from .loads import GROUP_PARTS
 from .pool_places import PoolPlaces
@@ -38,7 +38,7 @@ class PairPlanner:
     def places(self, live: Live, pool: Pool) -> PoolPlaces:
         """Where the groups of a pool lie, whose OSDs are all up. Those with explicit sets are not moved."""
         pairs: dict[str, list[list[int]]] = dict(entries_of(live.session.dump(), "pg_upmap_items"))
-        explicit, ups = {group for group, _ in entries_of(live.value, "pg_upmap")}, live.session.ups(groups_in(pool))
+        explicit, ups = {group for group, _ in entries_of(live.value, "pg_upmap")}, live.session.pool_ups([pool])
         own = PoolPlaces(live, pool, self.blocks(live, pool), list(ups.values()), pairs)
         own.fixed = {at for at, group in enumerate(ups) if group in explicit}
         return own

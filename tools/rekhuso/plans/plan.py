@@ -370,7 +370,8 @@ def planned_once(lives: list[Live], wish: Wish, tell: Callable[[str], None]) -> 
         return replace(outcome_of(measures, wanted, made, alone, taken_out, {}), least=least), measures, False
     order = order_of_steps(measures, steps, made.first, wish.nearfull)
     order.limit(wish.busy)
-    parts, measure = ordered_parts(order, wish.batch), measure_of_steps(measures, steps, wish.nearfull)
+    parts = ordered_parts(order, wish.batch, wish.until is not None)
+    measure = measure_of_steps(measures, steps, wish.nearfull)
     parts = even_parts(measures, order, parts, wish.batch) if order.left else parts
     parts = first_steps(parts, wish.most) if wish.until is None else until(parts, measure, wish.until)
     found = outcome_of(measures, wanted, made, parts, taken_out, order.stopped())

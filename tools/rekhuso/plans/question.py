@@ -22,7 +22,7 @@ from ..cluster.view import ClusterView, view_of_cluster
 from ..faults import Fault
 from ..program.answers import Up
 from ..program.map_forms import GROUPS, POOLS, change_form, key_of, parts_of
-from ..program.maps import Change, Entry, Map, Program, group_key, groups_of, written
+from ..program.maps import Change, Entry, Map, Program, group_key, written
 from ..values import SLOTS
 from ..words import some
 from .after_plan import after_steps
@@ -46,7 +46,7 @@ def sets_of_maps(maps: Sequence[Map], program: Program) -> dict[str, Up]:
     found: dict[str, Up] = {}
     for value in maps:
         with monitor_of(value, program) as monitor:
-            found.update(monitor.ups(groups_of(value)))
+            found.update(monitor.pool_ups(value["pools"]))
     return found
 
 

@@ -19,7 +19,7 @@ from ..cluster.names import Names
 from ..cluster.pool_data import Data
 from ..cluster.shares import Shares
 from ..faults import Refused
-from ..program.maps import Exceptions, Map, Pool, entries_of, groups_in, groups_of
+from ..program.maps import Exceptions, Map, Pool, entries_of
 from ..program.session import Session
 from .at_rest import AtRest
 from .loads import (
@@ -62,7 +62,7 @@ class Live:
     ) -> None:
         """Takes a session over a map, and asks for the set of each group, unless it is told where all are."""
         self.value, self.kept, self.names, self.judge, self.session = value, kept, names, judge, session
-        self.before = Shares(value, session.ups(groups_of(value))) if before is None else before
+        self.before = Shares(value, session.pool_ups(value["pools"])) if before is None else before
         self.pools: dict[int, Pool] = {pool["id"]: pool for pool in value["pools"]}
         self.totals = dict(self.before.counts)
         self.present = present_of(value)
@@ -153,8 +153,8 @@ class Live:
         where there are fewer OSDs by these, which are asked how many groups of all pools they have.
         """
         if pool["pg_num"] < len(laid.shares):
-            ups = self.session.ups(groups_in(pool)).values()
-            now = Counter(osd for up in ups for osd in set(up.places) if osd is not None)
+            sets = self.session.pool_sets([pool]).values()
+            now = Counter(osd for places in sets for osd in set(places) if osd is not None)
             found = {osd: now[osd] - laid.counts.get(osd, 0) for osd in now.keys() | laid.counts.keys()}
         else:
             counts = self.session.counts(laid.shares)
@@ -250,17 +250,17 @@ class Planner:
         loads = self.loads.told(number, self.half)
         return PoolLoads(loads, self.loads.above(number, loads))
 
-    def may_move(self, number: int, told: PoolLoads) -> bool:
-        """Whether a pool may have a move, beside what the others lay on OSDs."""
+    def may_move(self, number: int, told: PoolLoads, is_rough: bool = False) -> bool:
+        """Whether a pool may have a move, or but for rounding might, beside what the others lay on OSDs."""
         if number in self.refusals or not self.is_planned(number):
             return False
-        return self.at_rest.has_move(number, told.above, self.laid[number].counts)
+        return self.at_rest.has_move(number, told.above, self.laid[number], is_rough)
 
     def is_seen(self, number: int, osds: list[int]) -> bool:
         """Whether some OSDs show already that a pool may have a move, of which nothing is known."""
         if number in self.refusals or not self.is_planned(number) or number in self.at_rest.found:
             return False
-        return self.at_rest.has_move(number, self.loads.some_above(number, self.half, osds), self.laid[number].counts)
+        return self.at_rest.has_move(number, self.loads.some_above(number, self.half, osds), self.laid[number], True)
 
     def is_planned(self, number: int) -> bool:
         """Whether the rule of a pool is one by which a plan can be made."""
@@ -282,7 +282,9 @@ class Planner:
         groups = self.loads.groups
         ranked = sorted(groups, key=groups.__getitem__)
         ends = ranked if len(ranked) <= 2 * ENDS else ranked[:ENDS] + ranked[-ENDS:]
-        return {other for other in self.order if self.is_seen(other, ends) or self.may_move(other, self.told(other))}
+        return {
+            other for other in self.order if self.is_seen(other, ends) or self.may_move(other, self.told(other), True)
+        }
 
     def plan(self, number: int, most: int = MOST_MOVES) -> int:
         """Plans a pool from where it is, where it may have a move, and tells how many moves were made; the program may

@@ -67,10 +67,10 @@ class StepOrder:
         self.shut: set[int] = set()
         self.busy = Busy(NO_LIMIT)
         self.partakers = [partakers(step.was, come) for step, come in zip(steps, self.come)]
-        self.tops = [(-self.full(osd), osd) for osd in spread.osds()]
+        self.level = {osd: self.full(osd) for osds in (spread.osds(), *self.come, *self.go) for osd in osds}
+        self.tops = [(-self.level[osd], osd) for osd in spread.osds()]
         heapify(self.tops)
         self.rises, self.has_risen = 0, False
-        self.level = {osd: self.full(osd) for osds in self.come + self.go for osd in osds}
         self.bound, end = 0.0, dict(self.has)
         for at in range(len(steps)):
             self.shift(end, at)
@@ -98,18 +98,28 @@ class StepOrder:
         size = self.sizes[at]
         return max((self.ratio(self.high.get(osd, 0) + size, osd) for osd in self.come[at]), default=0.0)
 
-    def in_order(self, rank: Sequence[int]) -> list[list[PlanStep]]:
-        """Takes steps in the order of these numbers, in parts that end before the first which may not come; one that
-        may come into none stands alone.
+    def in_order(self, rank: Sequence[int], most: int, ahead: int) -> list[list[PlanStep]]:
+        """Takes steps in the order of these numbers, in parts of at most so many commands. A part ends before the first
+        step that may not come, unless another of so many that are next may; one that may come into none stands alone.
         """
-        found, is_alone = list[list[PlanStep]](), True
-        for at in rank:
-            if is_alone or not self.is_allowed(at):
-                self.begin()
-                is_alone = not self.is_allowed(at)
-                found.append([])
-            self.take(at)
-            found[-1].append(self.steps[at])
+        found, left = list[list[PlanStep]](), list(rank)
+        while left:
+            self.begin()
+            part, count, at, passed = list[int](), 0, 0, list[int]()
+            while at < len(left) and len(passed) <= ahead and count < most:
+                own, commands = left[at], len(self.steps[left[at]].commands)
+                if self.is_allowed(own) and (not part or count + commands <= most):
+                    self.take(own)
+                    part.append(own)
+                    count += commands
+                else:
+                    passed.append(own)
+                at += 1
+            left = passed + left[at:]
+            if not part:
+                part = [left.pop(0)]
+                self.take(part[0])
+            found.append([self.steps[own] for own in part])
         return found
 
     def of(self, steps: list[PlanStep]) -> StepOrder:
@@ -202,7 +212,7 @@ class StepOrder:
         heap, has_taken = self.by_fullness(), False
         while heap:
             key, osd = heappop(heap)
-            at = self.next_from(osd, first) if -key == self.full(osd) else None
+            at = self.next_from(osd, first) if -key == self.level[osd] else None
             if at is None and not heap and not has_taken:
                 at = self.rising(first)
                 self.rises += 1
@@ -212,13 +222,13 @@ class StepOrder:
                 has_taken = True
                 for other in self.come[at] + self.go[at]:
                     if other in self.leaving:
-                        heappush(heap, (-self.full(other), other))
+                        heappush(heap, (-self.level[other], other))
             if not heap and has_taken:
                 heap, has_taken = self.by_fullness(), False
 
     def by_fullness(self) -> list[tuple[float, int]]:
         """The OSDs from which steps are left, as a heap, the fullest first."""
-        heap = [(-self.full(osd), osd) for osd, own in self.leaving.items() if not self.left.isdisjoint(own)]
+        heap = [(-self.level[osd], osd) for osd, own in self.leaving.items() if not self.left.isdisjoint(own)]
         heapify(heap)
         return heap
 
@@ -234,9 +244,10 @@ class StepOrder:
 
     def fullest(self) -> float:
         """How full the fullest OSD is now, or at the end."""
-        while self.tops and self.tops[0][0] != -self.full(self.tops[0][1]):
-            heappop(self.tops)
-        return max(-self.tops[0][0] if self.tops else 0.0, self.end)
+        tops, level = self.tops, self.level
+        while tops and tops[0][0] != -level[tops[0][1]]:
+            heappop(tops)
+        return max(-tops[0][0] if tops else 0.0, self.end)
 
     def stopped(self) -> dict[int, int]:
         """The OSDs that would be filled too far by steps that are still to be taken, each with how many of these."""

@@ -10,13 +10,16 @@ from ..faults import Trouble
 
 # Look-ups at the map as it is, whose answers have its epoch and what was asked of; and with those at the follower's map
 # the form of what follows.
-LOOKS = ("up", "count", "groups")
+LOOKS = ("up", "ups", "count", "groups")
 PLACES, PRIMARY = re.compile(r"\[(?:(?:none|[0-9]+)(?:,(?:none|[0-9]+))*)?\]"), re.compile("-1|[0-9]+")
 SETS = re.compile(f"(?: {PLACES.pattern})*")
 SET = re.compile(f"{PLACES.pattern} (?:{PRIMARY.pattern})")
+POOL = re.compile(f"{PLACES.pattern}{SETS.pattern}")
 FORMS = {
     "up": SET,
+    "ups": POOL,
     "fup": SET,
+    "fups": POOL,
     "count": re.compile("[0-9]+"),
     "groups": re.compile(r"\[[0-9a-f.,]*\]"),
     "fkept": re.compile("all|fewer|gone"),
@@ -41,6 +44,9 @@ class Agreement:
     def check_answer(self, line: str, answer: str) -> None:
         """A fault where an answer is none of its line."""
         word, _, asked = line.partition(" ")
+        start = f"{word} {self.epoch} {asked} "
+        if answer.startswith(start) and word in FORMS and FORMS[word].fullmatch(answer, len(start)):
+            return
         if word in FORMS and not answer.startswith("err "):
             self.check_look(word, asked, answer)
         elif answer.startswith(("ok ", "moved ")):

@@ -3,7 +3,8 @@
 from __future__ import annotations
 
 import json
-from collections.abc import Mapping
+from collections.abc import Iterator, Mapping
+from itertools import repeat
 from typing import NamedTuple
 
 from ..faults import Refused
@@ -15,6 +16,13 @@ class Up(NamedTuple):
     epoch: int
     places: list[int | None]
     primary: int | None
+
+
+class PoolSets(NamedTuple):
+    """The places of the up sets of all groups of a pool, from group 0 on."""
+
+    epoch: int
+    sets: list[list[int | None]]
 
 
 class Made(NamedTuple):
@@ -52,6 +60,19 @@ def ups_of(answers: list[str]) -> list[Up]:
     sets = json.loads(f"[{','.join(words[3::5])}]".replace("none", "null"))
     primaries = (None if word == "-1" else int(word) for word in words[4::5])
     return list(map(Up, map(int, words[1::5]), sets, primaries))
+
+
+def pool_sets_of(answer: str) -> PoolSets:
+    """The up sets of all groups of a pool that an answer tells, from group 0 on."""
+    _, epoch, _, *told = answer.split(" ", 3)
+    text = "".join(told).replace(" ", ",").replace("none", "null")
+    return PoolSets(int(epoch), json.loads(f"[{text}]"))
+
+
+def ups_in(own: PoolSets) -> Iterator[Up]:
+    """The up set of each group of a pool: as `up_of` of each."""
+    primaries = (next((osd for osd in places if osd is not None), None) for places in own.sets)
+    return map(Up, repeat(own.epoch), own.sets, primaries)
 
 
 def left_of(answer: str) -> Left:

@@ -8,6 +8,7 @@ from __future__ import annotations
 import json
 import os
 from collections.abc import Mapping
+from functools import lru_cache
 from typing import Any, Dict, List, TypeVar, TypedDict, Union, cast
 
 from .map_forms import LEAF_WORDS
@@ -95,6 +96,7 @@ def written(value: object) -> str:
     return json.dumps(value, separators=(",", ":"), sort_keys=True)
 
 
+@lru_cache(maxsize=1 << 16)
 def group_key(group: str) -> tuple[int, int]:
     """Where a group stands among all."""
     pool, number = group.split(".")

@@ -187,8 +187,9 @@ class Monitor(Session):
             self.found_epoch = self._heading(answers, rb"epoch ([0-9]+)\n")
         pipes: list[tuple[IO[bytes], IO[bytes]]] = [(lines, answers)] if lines and answers else []
         pipes += [(self._writer(folder / one), self._reader(folder / other)) for one, other in names]
-        super().__init__(*pipes[0], self._ended, self._patience)
-        self.sessions = [self, *(Session(*pair, self._ended, self._patience) for pair in pipes[1:])]
+        super().__init__(*pipes[0], self._ended, self._patience, self.is_stock)
+        more = (Session(*pair, self._ended, self._patience, self.is_stock) for pair in pipes[1:])
+        self.sessions = [self, *more]
         for number, session in enumerate(self.sessions, 1):
             self._heading(session._answers, rb"session (%d)\n" % number)
 

@@ -5,15 +5,28 @@ from __future__ import annotations
 import json
 import threading
 from collections.abc import Callable, Iterable, Mapping
-from itertools import islice
+from itertools import chain, islice
 from typing import IO, NoReturn
 
 from ..faults import Closed, Refused, Trouble
 from ..progress import doing
 from ..words import counted
 from .agreement import Agreement
-from .answers import Left, Made, Moved, Up, accepted_answer, balance_line, left_of, up_of, ups_of
-from .maps import Map, written
+from .answers import (
+    Left,
+    Made,
+    Moved,
+    PoolSets,
+    Up,
+    accepted_answer,
+    balance_line,
+    left_of,
+    pool_sets_of,
+    up_of,
+    ups_in,
+    ups_of,
+)
+from .maps import Map, Pool, groups_in, written
 from .process import Patience
 
 # The number of the refusal of a line that the program does not have.
@@ -25,10 +38,19 @@ class Session:
     ended, and how long an answer may take.
     """
 
-    def __init__(self, lines: IO[bytes], answers: IO[bytes], gone: Callable[[], NoReturn], patience: Patience) -> None:
-        """Takes two open pipes, what raises the fault of a program that has ended, and who watches waits."""
+    def __init__(
+        self,
+        lines: IO[bytes],
+        answers: IO[bytes],
+        gone: Callable[[], NoReturn],
+        patience: Patience,
+        has_pool_lines: bool = False,
+    ) -> None:
+        """Takes two open pipes, what raises the fault of a program that has ended, who watches waits, and whether the
+        program tells whole pools in one answer, as it does under `stock`.
+        """
         self._lines, self._answers, self._gone, self._patience = lines, answers, gone, patience
-        self._is_closed, self._agreement = False, Agreement()
+        self._is_closed, self._agreement, self._has_pool_lines = False, Agreement(), has_pool_lines
 
     # Lines and their answers
 
@@ -108,6 +130,36 @@ class Session:
         """The up set of each group."""
         doing(f"asking for {counted(len(groups), 'group')}")
         return dict(zip(groups, ups_of(self.ask([f"up {group}" for group in groups]))))
+
+    def pool_ups(self, pools: Iterable[Pool]) -> dict[str, Up]:
+        """The up set of each group of some pools, which have as many groups as the map has there. Under `stock` a line
+        asks for a whole pool.
+        """
+        asked = list(pools)
+        groups = [group for pool in asked for group in groups_in(pool)]
+        if not self._has_pool_lines:
+            return self.ups(groups)
+        return dict(zip(groups, chain.from_iterable(map(ups_in, self._whole(asked)))))
+
+    def pool_sets(self, pools: Iterable[Pool]) -> dict[str, list[int | None]]:
+        """The places of the same up sets."""
+        asked = list(pools)
+        groups = [group for pool in asked for group in groups_in(pool)]
+        if not self._has_pool_lines:
+            return {group: up.places for group, up in self.ups(groups).items()}
+        return dict(zip(groups, chain.from_iterable(own.sets for own in self._whole(asked))))
+
+    def _whole(self, pools: list[Pool]) -> list[PoolSets]:
+        """The answer for each of some pools, which is asked for as a whole. A fault where it has another number of
+        groups.
+        """
+        doing(f"asking for {counted(sum(pool['pg_num'] for pool in pools), 'group')}")
+        lines = [f"ups {pool['id']}" for pool in pools]
+        found = list(map(pool_sets_of, self.ask(lines)))
+        for pool, line, own in zip(pools, lines, found):
+            if len(own.sets) != pool["pg_num"]:
+                raise Trouble(f"another program: to {line!r} it answers {counted(len(own.sets), 'set')}")
+        return found
 
     def count(self, osd: int) -> int:
         """In how many groups' up sets an OSD stands."""

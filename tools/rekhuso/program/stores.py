@@ -1,5 +1,5 @@
-"""The file of a store, which `osdmapstore` keeps: the text of a first map, and a row for each change since; and what
-the store notes of itself, in a form that has a table for it.
+"""The file of a store, which `osdmapstore` keeps: the text of a first map, and a row for each change since, which may
+tell when it was made and by whom; and what the store notes of itself, in a form that has a table for it.
 
 It is a SQLite database, whose newest rows may stand in the log beside it (`-wal`). Both are copied and read there, so
 that nothing is written into them or beside them, and a program may have them open and start meanwhile: a file and a
@@ -13,6 +13,7 @@ import contextlib
 import errno
 import fcntl
 import os
+import re
 import shutil
 import sqlite3
 import tempfile
@@ -47,6 +48,9 @@ TABLES = {
 }
 BARE, NOTED = ("journal", "map"), ("journal", "map", "store")
 PROFILES = ("plain", "stock")
+# What may stand in front of a change: the number of the life in which it was made, when, and by whom; and how it
+# begins.
+NOTE, NOTED_BY = re.compile("life=([+-]?[0-9]+),made=([0-9]+)(?:,by=([^ ]*))?"), "l"
 # What only the disk of the copy says, as nothing else is written.
 FULL = (errno.ENOSPC, errno.EDQUOT)
 # How many changes a run of the program takes.
@@ -56,17 +60,32 @@ MOST = 65536
 MISSING = "there is no store at this path"
 FOREIGN = "the file is not a store"
 DAMAGED = "the store is damaged"
+MIXED = "the store has a change of another store: its log is not its own"
 IN_USE = "the store is in use; it is read once the program that has it open has ended"
 MOVING = "the store was written faster than it was copied"
 
 
 @dataclass(frozen=True, **SLOTS)
+class StoreNote:
+    """What stands beside a change: the number of the life of the store in which it was made, when, in milliseconds
+    since 1970 by the clock of the machine (0 where that told none), and the word of whoever made it, if one was given.
+    """
+
+    life: int
+    made: int
+    by: str | None
+
+
+@dataclass(frozen=True, **SLOTS)
 class StoredChange:
-    """A row of the journal: the epoch of the map after it, the profile of the change, and the change as JSON."""
+    """A row of the journal: the epoch of the map after it, the profile of the change, the change as JSON, and what
+    stands beside it, if anything does.
+    """
 
     epoch: int
     profile: str
     text: str
+    note: StoreNote | None
 
 
 @dataclass(frozen=True, **SLOTS)
@@ -212,12 +231,27 @@ def facts_of(database: sqlite3.Connection, path: str) -> StoreFacts | None:
     return StoreFacts(*rows[0])
 
 
-def change_of_row(path: str, epoch: int, text: str) -> StoredChange:
-    """The change of a row. `Unopened` where it has no profile."""
+def note_of(path: str, text: str) -> StoreNote:
+    """What a note says. `Unopened` where it is none."""
+    found = NOTE.fullmatch(text)
+    if found is None:
+        raise Unopened(path, DAMAGED)
+    life, made, by = found.groups()
+    return StoreNote(int(life), int(made), by)
+
+
+def change_of_row(path: str, epoch: int, text: str, facts: StoreFacts | None) -> StoredChange:
+    """The change of a row. `Unopened` where it has no profile, or was made in another store."""
+    note = None
+    if text.startswith(NOTED_BY):
+        first, _, text = text.partition(" ")
+        note = note_of(path, first)
+        if facts is not None and note.life != facts.life:
+            raise Unopened(path, MIXED)
     profile, _, change = text.partition(" ")
     if profile not in PROFILES:
         raise Unopened(path, f"row {epoch}: no profile")
-    return StoredChange(epoch, profile, change)
+    return StoredChange(epoch, profile, change, note)
 
 
 def journal_of(database: sqlite3.Connection, path: str, facts: StoreFacts | None) -> StoredJournal:
@@ -230,7 +264,7 @@ def journal_of(database: sqlite3.Connection, path: str, facts: StoreFacts | None
     for number, (own, change) in enumerate(database.execute("SELECT epoch, change FROM journal ORDER BY epoch"), 1):
         if own != epoch + number:
             raise Unopened(path, f"row {own}: the epoch before it is {epoch + number - 1}")
-        changes.append(change_of_row(path, own, change))
+        changes.append(change_of_row(path, own, change, facts))
     return StoredJournal(path, epoch, text, changes, facts)
 
 

@@ -1,4 +1,4 @@
-use Rattle.std.proofs.Common.{◌≡◌, ◌∙◌, ◌+◌, sym, ap, refl, length, slice_index_or, IsSome, arith}
+use Rattle.std.proofs.Common.{◌≡◌, ◌∙◌, sym, ap, refl, slice_index_or, IsSome}
 use Rattle.grouptable.specs.Sets.{GroupSets}
 use Rattle.pgtable.specs.Rooms.{part_of}
 use Rattle.pgtable.specs.declared.rooms.Room.{Room}

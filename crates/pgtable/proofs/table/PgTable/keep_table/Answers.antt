@@ -9,13 +9,13 @@ use Rattle.pgtable.proofs.Making.{makes_kept}
 use Rattle.pgtable.proofs.table.PgTable.keep_table.Goals as goal
 
 pub position-at-requires : goal.position-at-requires
-position-at-requires c =
+position-at-requires g c =
     let u = c.args.update.now in
     let there = table_was_there u.before.now.map (map_after u) u.change.now c.args.pool.now c.holds.ensures.leads c.requires.there c.requires.untouched c.args.self.now c.requires.table in
     rw (c.id.ensures, there) refl
 
 pub bounds-pools-at : goal.bounds-pools-at
-bounds-pools-at c =
+bounds-pools-at g c =
     let u = c.args.update.now in
     let p = c.args.pool.now in
     let found : slice_get c.args.self.now.pools c.position-at.result ≡ pool_in c.args.self.now p.id = rw c.id.ensures at c.position-at.ensures in
@@ -23,7 +23,7 @@ bounds-pools-at c =
     rw c.pools.ensures.pools (slice_get_within c.args.self.now.pools c.position-at.result (pool_table u.before.now.map p) there)
 
 pub offset_bounds-pools-at : goal.offset_bounds-pools-at
-offset_bounds-pools-at c =
+offset_bounds-pools-at g c =
     let u = c.args.update.now in
     let p = c.args.pool.now in
     let found : slice_get c.args.self.now.pools c.position-at.result ≡ pool_in c.args.self.now p.id = rw c.id.ensures at c.position-at.ensures in
@@ -32,7 +32,7 @@ offset_bounds-pools-at c =
     omega (arith, inside, c.pools.ensures.few)
 
 pub patch_groups-requires-clause-groups : goal.patch_groups-requires-clause-groups
-patch_groups-requires-clause-groups c =
+patch_groups-requires-clause-groups g c = λ κs lives.
     let u = c.args.update.now in
     let p = c.args.pool.now in
     let found : slice_get c.args.self.now.pools c.position-at.result ≡ pool_in c.args.self.now p.id = rw c.id.ensures at c.position-at.ensures in
@@ -40,7 +40,7 @@ patch_groups-requires-clause-groups c =
     rw (← c.index-pools-at.is) (groups_there u.before.now.map (map_after u) u.change.now p c.holds.ensures.leads c.requires.there c.requires.untouched c.args.self.now c.requires.table c.position-at.result found c.index-pools-at.result here)
 
 pub returns-clause-made : goal.returns-clause-made
-returns-clause-made c =
+returns-clause-made g c =
     let u = c.args.update.now in
     let p = c.args.pool.now in
     let found : slice_get c.args.self.now.pools c.position-at.result ≡ pool_in c.args.self.now p.id = rw c.id.ensures at c.position-at.ensures in

@@ -10,21 +10,21 @@ use Rattle.pgtable.proofs.States.{ups_follow}
 use Rattle.pgtable.proofs.table.PgTable.make_patch.Goals as goal
 
 pub ups_after-requires-clause-down : goal.ups_after-requires-clause-down
-ups_after-requires-clause-down c =
+ups_after-requires-clause-down g c =
     let u = c.args.update.now in
     let m = u.before.now.map in
     let long : length c.args.self.now.up ≡ length m.presences = ap length c.requires.up ∙ length-map-range_with_len (osd_is_up m) 0 (length m.presences) in
     rw long (all_below m u.change.now (length m.presences) (omega arith) (accepted m u.change.now c.holds.ensures.leads.lawful).osds).down
 
 pub ups_after-requires-clause-up : goal.ups_after-requires-clause-up
-ups_after-requires-clause-up c =
+ups_after-requires-clause-up g c =
     let u = c.args.update.now in
     let m = u.before.now.map in
     let long : length c.args.self.now.up ≡ length m.presences = ap length c.requires.up ∙ length-map-range_with_len (osd_is_up m) 0 (length m.presences) in
     rw long (all_below m u.change.now (length m.presences) (omega arith) (accepted m u.change.now c.holds.ensures.leads.lawful).osds).up
 
 pub returns : goal.returns
-returns c =
+returns g c =
     let u = c.args.update.now in
     let m = u.before.now.map in
     let holds = c.holds.ensures.leads.holds_after in

@@ -10,7 +10,7 @@ use Rattle.pgtable.proofs.ChangedSets.{source_pools}
 use Rattle.pgtable.proofs.table.PgTable.replace_tables.Goals as goal
 
 pub new_table-requires-clause-there : goal.new_table-requires-clause-there
-new_table-requires-clause-there c =
+new_table-requires-clause-there g c = λ κs lives.
     let u = c.args.update.now in
     let m = map_after u in
     let items = c.pools-pool-items.ensures ∙ source_pools u.before.now.map u.source.now.map u.change.now u.is_after c.holds.ensures.is_source in
@@ -19,7 +19,7 @@ new_table-requires-clause-there c =
     found_at (λ (p : PoolFacts). p.id) m.pools c.loop-pool.pool-index c.pool-item.result c.holds.ensures.leads.holds_after.pools.rise inside is
 
 pub loop-pool-preserved : goal.loop-pool-preserved
-loop-pool-preserved c =
+loop-pool-preserved g c =
     let u = c.args.update.now in
     let m = map_after u in
     let items = c.pools-pool-items.ensures ∙ source_pools u.before.now.map u.source.now.map u.change.now u.is_after c.holds.ensures.is_source in
@@ -36,7 +36,7 @@ loop-pool-preserved c =
     }
 
 pub overflow_add-evals : goal.overflow_add-evals
-overflow_add-evals c =
+overflow_add-evals g c =
     let u = c.args.update.now in
     let m = map_after u in
     let items = c.pools-pool-items.ensures ∙ source_pools u.before.now.map u.source.now.map u.change.now u.is_after c.holds.ensures.is_source in
@@ -46,7 +46,7 @@ overflow_add-evals c =
     omega (arith, sum_by_more_le (evals_in m u.change.now) m.pools c.loop-pool.pool-index c.pool-item.result inside, last, evals_whole m u.change.now c.holds.ensures.leads.holds_after, c.in_ok-made.ensures.evals, c.loop-pool.invariant.evals)
 
 pub returns-clause-lead : goal.returns-clause-lead
-returns-clause-lead c =
+returns-clause-lead g c =
     let u = c.args.update.now in
     let m = map_after u in
     let items = c.pools-pool-items.ensures ∙ source_pools u.before.now.map u.source.now.map u.change.now u.is_after c.holds.ensures.is_source in
@@ -60,7 +60,7 @@ returns-clause-lead c =
     }
 
 pub returns-clause-evals : goal.returns-clause-evals
-returns-clause-evals c =
+returns-clause-evals g c =
     let u = c.args.update.now in
     let m = map_after u in
     let items = c.pools-pool-items.ensures ∙ source_pools u.before.now.map u.source.now.map u.change.now u.is_after c.holds.ensures.is_source in
@@ -68,7 +68,7 @@ returns-clause-evals c =
     c.loop-pool.invariant.evals ∙ evals_all m u.change.now c.loop-pool.pool-index past
 
 pub returns-clause-runs : goal.returns-clause-runs
-returns-clause-runs c =
+returns-clause-runs g c =
     let u = c.args.update.now in
     let m = map_after u in
     let items = c.pools-pool-items.ensures ∙ source_pools u.before.now.map u.source.now.map u.change.now u.is_after c.holds.ensures.is_source in

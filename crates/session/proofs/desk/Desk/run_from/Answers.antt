@@ -1,7 +1,7 @@
 use Rattle.std.proofs.Common.{◌≡◌, ◌∙◌, ◌++◌, [], IfErr, refl, sym, ap, subst, append-nil, append_assoc, rules}
 use Rattle.std.proofs.KnownBytes.{Consumes-nil, Consumes-trans}
 use Rattle.session.specs.Answers.{Sight}
-use Rattle.session.specs.Readings.{IsPart, Passes, Stand}
+use Rattle.session.specs.Readings.{IsUnended, Passes, Stand}
 use Rattle.session.specs.Sessions.{account, first_sight, session_of, stand, IsFollowerOf, IsCutShort}
 use Rattle.session.proofs.Coming.{no_part, passes_on, stops_reading, told_reading, stopped_reading}
 use Rattle.session.proofs.Fresh.{fresh_stand}
@@ -27,7 +27,7 @@ loop-init g c =
         follower = subst (λ f. IsFollowerOf c.args.self.now.monitor.now f) (sym c.new.ensures.follower) tt;
         sink = c.requires.unfailed;
       },
-      subst IsPart (sym none) no_part,
+      subst IsUnended (sym none) no_part,
     )
 
 pub loop-preserved : goal.loop-preserved

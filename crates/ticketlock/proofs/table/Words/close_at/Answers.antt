@@ -4,7 +4,7 @@ use lib.ListN.{get_elem?}
 use Rattle.atomic_table.proofs.Lists.{at_map}
 use Rattle.std.specs.Slots.{slots_items}
 use Rattle.ticketlock.specs.Standing.{sight_of}
-use Rattle.ticketlock.specs.Traces.{world_of, view_in, IsReachedBy}
+use Rattle.ticketlock.specs.Traces.{world_with, view_in, IsReachedBy}
 use Rattle.ticketlock.proofs.table.Words.close_at.Goals as goal
 
 pub returns : goal.returns
@@ -20,7 +20,7 @@ returns c =
       map view_in end.0.views,
       c.args.place.token.id,
       line.4,
-      subst (λ (n : ℕ × ℕ × ℕ). IsReachedBy c.args.self.table.shared.key line.4 (world_of n.0 n.1 n.2 (map view_in end.0.views))) (λ i. (u i, r i, w i)) line.5,
+      subst (λ (n : ℕ × ℕ × ℕ). IsReachedBy c.args.self.table.shared.key line.4 (world_with n.0 n.1 n.2 (map view_in end.0.views))) (λ i. (u i, r i, w i)) line.5,
       at_map view_in end.0.views c.args.place.token.id (sight_of c.args.place) at,
       line.6.0 c.args.place.token.id (sight_of c.args.place) at,
     )

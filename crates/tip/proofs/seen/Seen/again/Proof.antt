@@ -26,6 +26,7 @@ use Rattle.tip.specs.contracts.seen.Seen.again.Key.{name as #self}
 use Rattle.tip.proofs.seen.Seen.again.Statement.{statement}
 use Rattle.tip.proofs.seen.Seen.again.Code as code
 
+-- the same may be said again
 pub again_spec : {M : Type 1} → statement M
 again_spec 𝓤 𝓛 𝓜 𝓡 wired =
     let H = 𝓛.H in let 𝓣 = tables 𝓤 H 𝓜 𝓡 𝓡.env in let fn = code.function in let c = clauses 𝓛 𝓜.mem 𝓡.returns in

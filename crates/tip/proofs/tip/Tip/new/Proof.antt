@@ -22,6 +22,7 @@ use Rattle.tip.specs.contracts.tip.Tip.new.Key.{name as #self}
 use Rattle.tip.proofs.tip.Tip.new.Statement.{statement}
 use Rattle.tip.proofs.tip.Tip.new.Code as code
 
+-- a new count begins at 0
 pub new_spec : {M : Type 1} → statement M
 new_spec 𝓤 𝓛 𝓜 𝓡 wired =
     let H = 𝓛.H in let 𝓣 = tables 𝓤 H 𝓜 𝓡 𝓡.env in let fn = code.function in let c = clauses 𝓛 𝓜.mem 𝓡.returns in

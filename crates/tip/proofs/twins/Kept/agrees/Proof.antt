@@ -27,6 +27,7 @@ use Rattle.tip.specs.contracts.twins.Kept.agrees.Key.{name as #self}
 use Rattle.tip.proofs.twins.Kept.agrees.Statement.{statement}
 use Rattle.tip.proofs.twins.Kept.agrees.Code as code
 
+-- both halves know one count
 pub agrees_spec : {M : Type 1} → statement M
 agrees_spec 𝓤 𝓛 𝓜 𝓡 wired =
     let H = 𝓛.H in let 𝓣 = tables 𝓤 H 𝓜 𝓡 𝓡.env in let fn = code.function in let c = clauses 𝓛 𝓜.mem 𝓡.returns in

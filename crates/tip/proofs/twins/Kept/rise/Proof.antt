@@ -28,6 +28,7 @@ use Rattle.tip.specs.contracts.twins.Kept.rise.Key.{name as #self}
 use Rattle.tip.proofs.twins.Kept.rise.Statement.{statement}
 use Rattle.tip.proofs.twins.Kept.rise.Code as code
 
+-- with both halves a count rises
 pub rise_spec : {M : Type 1} → statement M
 rise_spec 𝓤 𝓛 𝓜 𝓡 wired =
     let H = 𝓛.H in let 𝓣 = tables 𝓤 H 𝓜 𝓡 𝓡.env in let fn = code.function in let c = clauses 𝓛 𝓜.mem 𝓡.returns in let A : RattleType = Kept.the_row in let B : RattleType = Mine.the_row in

@@ -1,7 +1,0 @@
-use Rattle.std.proofs.Common.{◌≡◌, ◌<◌, ℕ}
-use Rattle.serving.specs.Players.{made_by}
-use Rattle.serving.proofs.players.are_made_once.Given as goal
-
--- each epoch so far is made once
-abbrev pub invariant-loop-at : goal.invariant-loop-at
-invariant-loop-at l = (k : ℕ) → k < l.at → made_by l.lefts k ≡ 1
