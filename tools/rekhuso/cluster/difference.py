@@ -107,7 +107,10 @@ def moved_parts(before: Mapping[str, Up], after: Mapping[str, Up], erasure: set[
     groups, places = 0, 0
     osds: set[int] = set()
     for group in before.keys() & after.keys():
-        was, now, is_erasure = before[group].places, after[group].places, group_key(group)[0] in erasure
+        was, now = before[group].places, after[group].places
+        if was == now:
+            continue
+        is_erasure = group_key(group)[0] in erasure
         come = coming(was, now, is_erasure)
         groups += has_moved(was, now, is_erasure)
         places += len(come)

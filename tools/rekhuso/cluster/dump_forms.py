@@ -8,6 +8,8 @@ from __future__ import annotations
 
 import math
 import re
+from collections.abc import Sequence
+from itertools import chain
 from typing import Any, Dict, NamedTuple, cast
 
 from ..files import JsonObject
@@ -176,22 +178,30 @@ def kind_fault(value: object, kind: type) -> str:
     return "a number of more than 64 bits" if is_wide else f"no {TYPE_WORDS[kind]}"
 
 
-def doubtful(entries: list[object], shape: object) -> list[int]:
-    """Where entries of a list may have another form than a shape. Nearly all of long lists are objects whose every key
-    is there with a whole number or a text as it must be, which is seen at once.
+def all_fit(values: Sequence[Any], shape: object) -> bool:
+    """Whether values surely have a form: nearly all of long lists do, which is seen key by key of all at once. Steps of
+    rules are looked at one by one.
     """
-    is_plain = isinstance(shape, dict) and all(kind in (int, str) and key[0] != "?" for key, kind in shape.items())
-    if not isinstance(shape, dict) or not is_plain:
-        return list(range(len(entries)))
-    keys, kinds = list(shape), list(shape.values())
-    numbers = [key for key in keys if shape[key] is int]
-    return [
-        at
-        for at, entry in enumerate(entries)
-        if not isinstance(entry, dict)
-        or [type(entry.get(key)) for key in keys] != kinds
-        or not all(-WIDEST < entry[key] < WIDEST for key in numbers)
-    ]
+    if shape is object:
+        return True
+    kinds: set[type] = set(map(type, values))
+    if isinstance(shape, list):
+        return kinds <= {list} and all_fit([*chain.from_iterable(values)], shape[0])
+    if isinstance(shape, dict):
+        return kinds <= {dict} and "op" not in shape and all(all_at(values, key, own) for key, own in shape.items())
+    if isinstance(shape, (UpTo, Count, Written)):
+        return not any(map(shape.fault, set(values) if kinds <= {int, float, str} else values))
+    if shape is str:
+        return kinds <= {str}
+    numbers: set[type] = {int} if shape is int else {int, float}
+    return kinds <= numbers and all(-WIDEST < own < WIDEST for own in set(values))
+
+
+def all_at(values: Sequence[dict[str, Any]], key: str, shape: object) -> bool:
+    """Whether what stands in objects at a key surely has a form, and stands in each unless it may be missing."""
+    name = key.removeprefix("?")
+    own = [value[name] for value in values if name in value]
+    return (name != key or len(own) == len(values)) and all_fit(own, shape)
 
 
 def misfits(value: object, shape: object, place: str) -> list[str]:
@@ -199,8 +209,9 @@ def misfits(value: object, shape: object, place: str) -> list[str]:
     if isinstance(shape, list):
         if not isinstance(value, list):
             return [f"{place}: no list"]
-        places = doubtful(value, shape[0])
-        return [found for at in places for found in misfits(value[at], shape[0], f"{place}[{at}]")]
+        if all_fit(value, shape[0]):
+            return []
+        return [found for at, own in enumerate(value) for found in misfits(own, shape[0], f"{place}[{at}]")]
     if isinstance(shape, dict):
         if not isinstance(value, dict):
             return [f"{place}: no object"]
@@ -241,8 +252,8 @@ def fitting_parts(value: object, shape: object) -> object:
     """The entries of a list or an object that are of their form; 1 in place of a number."""
     if isinstance(shape, list):
         entries = value if isinstance(value, list) else []
-        wrong = {at for at in doubtful(entries, shape[0]) if misfits(entries[at], shape[0], "")}
-        return [entry for at, entry in enumerate(entries) if at not in wrong]
+        is_whole = all_fit(entries, shape[0])
+        return [entry for entry in entries if is_whole or not misfits(entry, shape[0], "")]
     if isinstance(shape, dict):
         return fitting(value, shape)[0]
     return 1

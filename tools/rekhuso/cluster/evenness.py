@@ -3,9 +3,12 @@
 from __future__ import annotations
 
 import math
-from collections import defaultdict
-from collections.abc import Mapping
+from collections import Counter, defaultdict
+from collections.abc import Iterable, Mapping, Sequence
 from dataclasses import dataclass
+from itertools import chain
+from operator import add
+from typing import cast
 
 from ..values import SLOTS
 from .json_forms import FillParts, OsdFillParts, UseParts
@@ -70,10 +73,25 @@ class Spread:
         return {"fullest": self.filled(fullest), "emptiest": self.filled(emptiest)}
 
 
+def standing_in(sets: Iterable[Sequence[int | None]]) -> Counter[int]:
+    """In how many of some sets each OSD stands."""
+    own = [places if len(set(places)) == len(places) else set(places) for places in sets]
+    found = Counter(chain.from_iterable(own))
+    del found[None]
+    return cast("Counter[int]", found)
+
+
 def sums_by_osd(by_pool: Mapping[int, Mapping[int, float]]) -> dict[int, float]:
     """The sum over pools of what each OSD has of them."""
     found: defaultdict[int, float] = defaultdict(int)
-    for own in by_pool.values():
+    pools = list(by_pool.values())
+    if len({tuple(own) for own in {id(own): own for own in pools}.values()}) == 1:
+        sums = list(pools[0].values())
+        for own in pools[1:]:
+            sums = list(map(add, sums, own.values()))
+        found.update(zip(pools[0], sums))
+        return found
+    for own in pools:
         for osd, count in own.items():
             found[osd] += count
     return found

@@ -18,14 +18,17 @@ def flows(before: Mapping[str, Up], after: Mapping[str, Up], erasure: set[int]) 
     """
     found: dict[tuple[int, int], int] = {}
     for group in before.keys() & after.keys():
-        for pair in passed_on(before[group].places, after[group].places, group_key(group)[0] in erasure):
+        was, now = before[group].places, after[group].places
+        for pair in passed_on(was, now, group_key(group)[0] in erasure) if was != now else ():
             found[pair] = found.get(pair, 0) + 1
     return found
 
 
 def short_in(ups: Mapping[str, Up], least: Mapping[int, int]) -> list[str]:
     """The groups with fewer places than a number that their pool has; pools that have none aside."""
-    return [group for group, up in ups.items() if filled(up) < least.get(group_key(group)[0], 0)]
+    most = max(least.values(), default=0)
+    some = ((group, up) for group, up in ups.items() if len(up.places) < most or None in up.places)
+    return [group for group, up in some if filled(up) < least.get(group_key(group)[0], 0)]
 
 
 def fewer_in(groups: list[str], before: Mapping[str, Up], ups: Mapping[str, Up], least: Mapping[int, int]) -> list[str]:

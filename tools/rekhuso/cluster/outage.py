@@ -33,10 +33,12 @@ def filled(up: Up) -> int:
 
 def outage_of(osds: Iterable[Osd], pools: Iterable[Pool], ups: Mapping[str, Up]) -> Outage | None:
     """The outage of a cluster; None where no OSD is down, or where each group has all its places nonetheless."""
+    down = sorted(osd["id"] for osd in osds if osd["exists"] and not osd["up"])
+    if not down:
+        return None
     sizes = {pool["id"]: pool["size"] for pool in pools}
     short = [group for group, up in ups.items() if filled(up) < sizes[group_key(group)[0]]]
-    down = sorted(osd["id"] for osd in osds if osd["exists"] and not osd["up"])
-    return Outage(down, short) if down and short else None
+    return Outage(down, short) if short else None
 
 
 def check_outage(outage: Outage | None, is_asked: bool) -> None:

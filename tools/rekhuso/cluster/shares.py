@@ -5,11 +5,10 @@ from __future__ import annotations
 from collections import Counter
 from collections.abc import Collection
 from copy import copy
-from itertools import chain
 
 from ..program.answers import Up
 from ..program.maps import Map, Pool, groups_in
-from .evenness import sums_by_osd
+from .evenness import standing_in, sums_by_osd
 from .json_forms import FullParts, PoolRowParts, RowParts, SpreadParts, TotalParts
 from .reach import Full, Reach, blocks_of
 
@@ -23,13 +22,12 @@ class Shares:
         self.osds = {osd["id"]: osd for osd in value["osds"]}
         self.sets = {pool["id"]: [ups[group] for group in groups_in(pool)] for pool in value["pools"]}
         self.counts_in = {pool["id"]: self.counted(pool) for pool in value["pools"]}
-        self.counts: Counter[int] = Counter()
-        for counts in self.counts_in.values():
-            self.counts.update(counts)
+        self.counts = Counter[int](sums_by_osd(self.counts_in))
         self.buckets = {bucket["id"]: bucket for bucket in value["buckets"]}
         self.items = {item: weight for bucket in value["buckets"] for item, weight in bucket["items"]}
         self.trees: dict[int, list[dict[int, int]]] = {}
         self.reaches: dict[tuple[int, int], tuple[list[dict[int, int]], list[Full]]] = {}
+        self.known: dict[tuple[int, ...], dict[int, float]] = {}
         self.shares_by = {pool["id"]: self.shares_in(pool) for pool in value["pools"]}
         self.reach_by = {pool["id"]: self.reach_in(pool) for pool in value["pools"]}
         self.wanted: dict[int, float] = dict(sums_by_osd(self.shares_by))
@@ -55,9 +53,7 @@ class Shares:
 
     def counted(self, pool: Pool) -> Counter[int]:
         """In how many groups of a pool each OSD stands."""
-        return Counter(
-            osd for osd in chain.from_iterable(set(up.places) for up in self.ups_in(pool)) if osd is not None
-        )
+        return standing_in(up.places for up in self.ups_in(pool))
 
     def weights_for(self, pool: Pool) -> dict[int, int]:
         """The weights of the OSDs that may have groups of a pool: they are below what its rule takes, up and in."""
@@ -116,13 +112,21 @@ class Shares:
         return self.shares_by[pool["id"]] if trees == self.trees_for(pool) else self.shared(pool, trees)
 
     def shared(self, pool: Pool, trees: list[dict[int, int]]) -> dict[int, float]:
-        """The places of a pool, shared tree by tree as its OSDs weigh there."""
-        found: dict[int, float] = {}
+        """The places of a pool, shared tree by tree as its OSDs weigh there: one value for pools that have as many
+        places in the same trees.
+        """
+        counts, key = self.counts_in[pool["id"]], list[int]()
         for weights in trees:
-            counts, total = self.counts_in[pool["id"]], sum(weights.values())
-            places = sum(count for osd, count in counts.items() if osd in weights)
-            found.update({osd: places * weight / total for osd, weight in weights.items()} if total else {})
-        return found
+            is_whole = counts.keys() <= weights.keys()
+            own = sum(counts.values() if is_whole else (own for osd, own in counts.items() if osd in weights))
+            key += [id(weights), own]
+        if tuple(key) not in self.known:
+            found: dict[int, float] = {}
+            for weights, places in zip(trees, key[1::2]):
+                total = sum(weights.values())
+                found.update({osd: places * weight / total for osd, weight in weights.items()} if total else {})
+            self.known[tuple(key)] = found
+        return self.known[tuple(key)]
 
     def roots(self) -> list[int]:
         """The buckets that stand in no other."""

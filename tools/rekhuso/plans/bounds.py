@@ -9,6 +9,7 @@ from operator import truediv
 
 from ..cluster.evenness import Spread
 from ..values import SLOTS
+from .falling_order import Levels
 from .step_order import EVEN
 
 # What is no more than rounding, as a part of a number.
@@ -54,7 +55,7 @@ class Filling:
 
     def __init__(self, measure: Measure, has: Mapping[int, float]) -> None:
         """Takes what the OSDs have before the plan."""
-        self.measure, self.has = measure, dict(has)
+        self.measure, self.levels = measure, Levels(has, measure.spread.share, 0.0)
         self.most = {osd: max(has.get(osd, 0), measure.end.get(osd, 0)) for osd in {*has, *measure.end}}
         self.osds = measure.spread.osds()
         self.shares = [measure.spread.share[osd] for osd in self.osds]
@@ -84,16 +85,15 @@ class Filling:
         passes a bound, and how; None where there is none. One step alone may pass it, where no disk is known, and steps
         from which no OSD gets emptier.
         """
-        bound, high = max(self.fullest(self.has), self.end, EVEN), dict(self.has)
+        bound, high = max(self.levels.top(), self.end, EVEN), dict(self.levels.has)
         found: tuple[str, str] | None = None
         for step in steps:
             for osd in step.come:
                 high[osd] = high.get(osd, 0) + step.size
-                self.has[osd] = self.has.get(osd, 0) + step.size
+            self.levels.put(step.come, step.size)
             why = None if found else self.fault(step, high, bound)
             found = found if why is None else (step.line, why)
         for step in steps:
-            for osd in step.go:
-                self.has[osd] = self.has.get(osd, 0) - step.size
+            self.levels.put(step.go, -step.size)
         is_free = not any(step.go for step in steps) or len(steps) < 2 and not self.measure.limits
         return None if is_free else found

@@ -47,13 +47,18 @@ class Levels:
 
     def move(self, shift: Shift, sign: int) -> None:
         """Takes a step (1), or takes it back (-1)."""
-        has, now = self.has, self.now
-        for osds, more in ((shift.come, sign * shift.size), (shift.go, -sign * shift.size)):
-            for osd in osds:
-                has[osd] = has.get(osd, 0.0) + more
-        for osd in {*shift.come, *shift.go}:
-            now[osd] = self.level(osd, 0.0)
-            heappush(self.heap, (-now[osd], osd))
+        size = sign * shift.size
+        self.put(shift.come, size)
+        self.put(shift.go, -size)
+
+    def put(self, osds: Iterable[int], more: float) -> None:
+        """OSDs have so much more."""
+        has, now, share, heap = self.has, self.now, self.share, self.heap
+        for osd in osds:
+            has[osd] = size = has.get(osd, 0.0) + more
+            own = share.get(osd, 0.0)
+            now[osd] = level = size / own if own > 0 else 0.0
+            heappush(heap, (-level, osd))
 
     def top(self, without: Collection[int] = ()) -> float:
         """How full the fullest OSD is, of those that are not left aside, and at least the floor."""
@@ -79,30 +84,41 @@ def rise_of(levels: Levels, shifts: Iterable[Shift]) -> float:
 
 
 class Backwards:
-    """The steps that are to be taken back, and how full OSDs are while they are."""
+    """The steps that are to be taken back, and how full OSDs are while they are. Of steps from one OSD alone the least
+    stands for all in the heap: without it the OSD is least full.
+    """
 
     def __init__(self, levels: Levels, shifts: Mapping[str, Shift]) -> None:
         """Takes how full OSDs are after some steps, and the steps."""
         self.levels, self.left = levels, dict(shifts)
-        self.of: dict[int, list[str]] = {}
-        self.peaks: dict[str, float] = {}
-        self.heap: list[tuple[float, str]] = []
-        for group, shift in shifts.items():
+        self.rows: dict[int, list[str]] = {}
+        self.others: dict[int, list[str]] = {}
+        for group, shift in sorted(shifts.items(), key=lambda own: (own[1].size, own[0]), reverse=True):
             for osd in shift.go:
-                self.of.setdefault(osd, []).append(group)
-            self.rank(group)
+                (self.rows if len(shift.go) == 1 else self.others).setdefault(osd, []).append(group)
+        first = [row[-1] for row in self.rows.values()]
+        several = [group for group, shift in shifts.items() if len(shift.go) != 1]
+        self.heap = [(self.peak(group), group) for group in first + several]
+        heapify(self.heap)
 
     def peak(self, group: str) -> float:
         """How full an OSD is before a step from which it goes."""
         shift, level = self.left[group], self.levels.level
+        if len(shift.go) == 1:
+            return level(shift.go[0], shift.size)
         return max([level(osd, shift.size) for osd in shift.go], default=0.0)
 
-    def rank(self, group: str) -> None:
-        """Ranks a step by how full an OSD is before it now."""
-        peak = self.peak(group)
-        if self.peaks.get(group) != peak:
-            self.peaks[group] = peak
-            heappush(self.heap, (peak, group))
+    def rank(self, groups: Iterable[str]) -> None:
+        """Ranks steps by how full an OSD is before each of them now."""
+        for group in groups:
+            heappush(self.heap, (self.peak(group), group))
+
+    def behind(self, group: str) -> list[str]:
+        """The step that stands in the heap once one from the same OSD is out of it."""
+        shift = self.left[group]
+        row = self.rows[shift.go[0]] if len(shift.go) == 1 else [group]
+        at = row.index(group)
+        return row[at - 1 : at] if at else []
 
     def last(self) -> str:
         """The step that was the last: without it an OSD is least full, of those without which the fullest is as full;
@@ -111,22 +127,24 @@ class Backwards:
         top, aside, found = self.levels.top(), dict[str, float](), None
         while self.heap and found is None:
             peak, group = heappop(self.heap)
-            if group not in self.left or peak != self.peaks[group] or group in aside:
+            if group not in self.left or group in aside or peak != self.peak(group):
                 continue
             aside[group] = max(peak, self.levels.top(self.left[group].come))
             found = group if aside[group] >= top - ALIKE_RATIOS else None
-        for group in aside:
-            heappush(self.heap, (self.peaks[group], group))
+            self.rank(self.behind(group))
+        self.rank(aside)
         return max(aside, key=lambda group: (aside[group], group)) if found is None else found
 
     def take_back(self, group: str) -> None:
         """Takes a step back."""
-        shift = self.left.pop(group)
+        shift = self.left[group]
+        for osd in shift.go:
+            (self.rows if len(shift.go) == 1 else self.others)[osd].remove(group)
+        del self.left[group]
         self.levels.move(shift, -1)
         for osd in {*shift.come, *shift.go}:
-            self.of[osd] = [other for other in self.of.get(osd, ()) if other in self.left]
-            for other in self.of[osd]:
-                self.rank(other)
+            self.rank(self.rows.get(osd, [])[-1:])
+            self.rank(self.others.get(osd, ()))
 
 
 def falling(levels: Levels, shifts: Mapping[str, Shift]) -> list[str]:

@@ -82,7 +82,10 @@ class Printed:
     def check_ends(self, course: Course, last: Mapping[str, str], wanted: Mapping[str, Sequence[int | None]]) -> None:
         """A fault where a group of a map ends elsewhere than it is told to be."""
         for group, places in course.after.items():
-            was, is_erasure = course.before[group], course.is_erasure(group)
+            was, is_named = course.before[group], group in last or group in wanted
+            if places == was and not is_named:
+                continue
+            is_erasure = course.is_erasure(group)
             if group not in last and places != was:
                 raise Fault(f"{group} moves, and no command names it: {DEFECT}")
             goal = list(wanted[group]) if group in wanted else self.as_up(was, is_erasure)

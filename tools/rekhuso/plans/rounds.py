@@ -14,6 +14,7 @@ from contextlib import contextmanager
 from typing import NamedTuple, Protocol
 
 from ..cluster.cleanup import barred, group_fault, pool_of_group
+from ..cluster.evenness import standing_in
 from ..cluster.judge import Judge, Reason, present_of
 from ..cluster.names import Names
 from ..cluster.pool_data import Data
@@ -153,8 +154,7 @@ class Live:
         where there are fewer OSDs by these, which are asked how many groups of all pools they have.
         """
         if pool["pg_num"] < len(laid.shares):
-            sets = self.session.pool_sets([pool]).values()
-            now = Counter(osd for places in sets for osd in set(places) if osd is not None)
+            now = standing_in(self.session.pool_sets([pool]).values())
             found = {osd: now[osd] - laid.counts.get(osd, 0) for osd in now.keys() | laid.counts.keys()}
         else:
             counts = self.session.counts(laid.shares)

@@ -95,8 +95,14 @@ class StepOrder:
 
     def peak(self, at: int) -> float:
         """How full a step makes an OSD at most, beside all that comes in the part."""
-        size = self.sizes[at]
-        return max((self.ratio(self.high.get(osd, 0) + size, osd) for osd in self.come[at]), default=0.0)
+        return self.worst(self.high, at)
+
+    def worst(self, has: Mapping[int, float], at: int) -> float:
+        """How full a step makes an OSD at most where OSDs have so much."""
+        come, size = self.come[at], self.sizes[at]
+        if len(come) == 1:
+            return self.ratio(has.get(come[0], 0) + size, come[0])
+        return max((self.ratio(has.get(osd, 0) + size, osd) for osd in come), default=0.0)
 
     def in_order(self, rank: Sequence[int], most: int, ahead: int) -> list[list[PlanStep]]:
         """Takes steps in the order of these numbers, in parts of at most so many commands. A part ends before the first
@@ -139,7 +145,7 @@ class StepOrder:
             return False
         if self.limits:
             return not self.over(at)
-        is_below = all(self.high.get(osd, 0) <= self.most[osd] for osd in self.come[at])
+        is_below = all([self.high.get(osd, 0) <= self.most[osd] for osd in self.come[at]])
         return is_below and self.peak(at) <= self.bound
 
     def begin(self) -> None:
@@ -240,7 +246,7 @@ class StepOrder:
 
     def filled(self, at: int) -> float:
         """How full a step makes an OSD at most."""
-        return max((self.ratio(self.has.get(osd, 0) + self.sizes[at], osd) for osd in self.come[at]), default=0.0)
+        return self.worst(self.has, at)
 
     def fullest(self) -> float:
         """How full the fullest OSD is now, or at the end."""

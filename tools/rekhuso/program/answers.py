@@ -71,8 +71,13 @@ def pool_sets_of(answer: str) -> PoolSets:
 
 def ups_in(own: PoolSets) -> Iterator[Up]:
     """The up set of each group of a pool: as `up_of` of each."""
-    primaries = (next((osd for osd in places if osd is not None), None) for places in own.sets)
-    return map(Up, repeat(own.epoch), own.sets, primaries)
+    return map(Up, repeat(own.epoch), own.sets, map(primary_of, own.sets))
+
+
+def primary_of(places: list[int | None]) -> int | None:
+    """The first OSD of a set; None where all its places are empty."""
+    first = places[0] if places else None
+    return next((osd for osd in places if osd is not None), None) if first is None else first
 
 
 def left_of(answer: str) -> Left:

@@ -91,9 +91,13 @@ def entries_of(value: Mapping[str, object], key: str) -> list[Any]:
     return cast(List[Any], value.get(key, []))
 
 
+# What writes values: compact JSON, keys in byte order.
+WRITER = json.JSONEncoder(separators=(",", ":"), sort_keys=True)
+
+
 def written(value: object) -> str:
-    """The written form of a value: compact JSON, keys in byte order."""
-    return json.dumps(value, separators=(",", ":"), sort_keys=True)
+    """The written form of a value."""
+    return WRITER.encode(value)
 
 
 @lru_cache(maxsize=1 << 16)
