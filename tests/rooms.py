@@ -1,5 +1,5 @@
 """Maps whose groups are placed in threads: pools about the size from which they are, in maps about the number of groups
-from which there is more than one room.
+from which there is more than one room; and many small pools, alone and beside a large one.
 
 Each map is opened three times: on all processors that there are; on one; and with all threads refused that the program
 asks for, but for that of its session. Then an OSD gets another reweight, another CRUSH map comes, and each group gets a
@@ -24,10 +24,14 @@ from tests.clusters import Json
 from tests.rows import MAPS, with_values, written
 
 OSDS, SECONDS = 5, 300
-# A map of fewer groups has one room, and so has a pool of fewer. There are as many rooms as processors, 16 at most.
+# A map of fewer groups has one room, and so has a pool of fewer unless rooms take whole pools. There are as many rooms as
+# processors, 16 at most.
 MANY, LARGE, MOST = 4096, 1024, 16
 # Each group is placed when the map is opened, and by each of three changes.
-TIMES = 4
+CHANGES = 3
+# Sizes of pools: about those limits, once fewer pools than there may be processors; many small ones that differ; and one
+# that is large beside many small ones.
+SIZES = ((1023, 1024, 2049), (4095,), (3, 1023, 3070), (1, 500, 3, 512, *(110,) * 28), (2050, *(66,) * 31))
 # The processors that there are, and whether rooms get threads.
 WAYS = (("on all processors", None, True), ("on one processor", 1, True), ("with threads refused", None, False))
 
@@ -95,17 +99,20 @@ class Rooms(Case):
         self.assertEqual((done.returncode, done.stderr), (0, ""))
         return done.stdout, marks.read_text() if marks.exists() else ""
 
-    def asked_for(self, sizes: tuple[int, ...], most: int | None) -> int:
-        """How many threads a run asks for each time that it places the groups: for each large pool as many as there are
-        rooms but one, whose part is placed in the thread that opens or changes the map. A change that names
-        all groups asks for as many."""
+    def asked_for(self, sizes: tuple[int, ...], most: int | None) -> tuple[int, int]:
+        """How many threads a run asks for when it opens the map, and at each change: for each large pool as many as
+        there are rooms but one, whose part is placed in the thread that opens or changes the map. Where no pool has
+        more than half of what a room is to place, the rooms take whole pools at opening, and threads are asked for
+        once. A change that names all groups asks for as many as one that touches all pools."""
         rooms = min(most or MOST, processors(), MOST) if sum(sizes) >= MANY else 1
-        return (rooms - 1) * sum(1 for groups in sizes if groups >= LARGE)
+        for_large = (rooms - 1) * sum(1 for groups in sizes if groups >= LARGE)
+        is_even = 2 * max(sizes) <= sum(sizes) // rooms + 1
+        return rooms - 1 if is_even else for_large, for_large
 
     def test_sizes(self) -> None:
         """The groups of each map are where the model has them, however many threads place them."""
         self.needs("taskset", shutil.which("taskset") is not None)
-        for sizes in ((1023, 1024, 2049), (4095,), (3, 1023, 3070)):
+        for sizes in SIZES:
             value = a_map(sizes)
             asks = [f"up {number}.{group:x}" for number, groups in enumerate(sizes, 1) for group in range(groups)]
             asks += [f"groups {osd}" for osd in range(OSDS)]
@@ -118,8 +125,8 @@ class Rooms(Case):
                 files[1].write_text("".join(line + "\n" for line in lines))
                 for way, most, gets_threads in WAYS:
                     with self.subTest(f"pools of {sizes} groups {way}"):
-                        asked = self.asked_for(sizes, most)
+                        first, later = self.asked_for(sizes, most)
                         # The thread of the session comes behind those that place the groups of the map.
-                        answers, threads = self.opened(files, library, most, 0 if gets_threads else asked + 1)
+                        answers, threads = self.opened(files, library, most, 0 if gets_threads else first + 1)
                         self.assertEqual(answers, wanted)
-                        self.assertEqual(len(threads), TIMES * asked + 1)
+                        self.assertEqual(len(threads), first + CHANGES * later + 1)

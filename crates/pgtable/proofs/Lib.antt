@@ -12,4 +12,5 @@ pub mod PoolPatches
 pub mod PatchedInPlace
 pub mod Parts
 pub mod Sharing
+pub mod Stretching
 pub mod Naming

@@ -83,18 +83,22 @@ pub part_ran : {X : Type 0} (items : X → List Places) (m : ClusterMap) (p : Po
 part_ran items m p k size old new None some is = absurd (false≢true some)
 part_ran items m p k size old new (Some x) some is = is.runs
 
--- the runs of parts from one on add up to those of the groups from its first to behind the last
-pub parts_ran : (size count j : ℕ) (olds news : List Room) → length news ≡ length olds → ((k i : ℕ) (d : Room) → k < length olds → i ≡ j + k → RunsMore (len_of i size count) (get_or olds k d).work (get_or news k d).work) → (last : ℕ) → last ≡ j + length olds → RunMore (start_of last size count - start_of j size count) (map (λ (r : Room). r.work) olds) (map (λ (r : Room). r.work) news)
-parts_ran size count j [] [] same each last is = let end : last ≡ j = omega (arith, is) in rw end (omega arith)
-parts_ran size count j [] (n ∷ ns) same each last is = absurd (omega arith)
-parts_ran size count j (o ∷ os) [] same each last is = absurd (omega arith)
-parts_ran size count j (o ∷ os) (n ∷ ns) same each last is =
+-- the runs of rooms from one on, where those before a room have placed so many groups, add up to the groups from its first to behind the last
+pub rooms_ran : (upto : ℕ → ℕ) → ((a b : ℕ) → a ≤ b → upto a ≤ upto b) → (j : ℕ) (olds news : List Room) → length news ≡ length olds → ((k i : ℕ) (d : Room) → k < length olds → i ≡ j + k → RunsMore (upto (i + 1) - upto i) (get_or olds k d).work (get_or news k d).work) → (last : ℕ) → last ≡ j + length olds → RunMore (upto last - upto j) (map (λ (r : Room). r.work) olds) (map (λ (r : Room). r.work) news)
+rooms_ran upto rise j [] [] same each last is = let end : last ≡ j = omega (arith, is) in rw end (omega arith)
+rooms_ran upto rise j [] (n ∷ ns) same each last is = absurd (omega arith)
+rooms_ran upto rise j (o ∷ os) [] same each last is = absurd (omega arith)
+rooms_ran upto rise j (o ∷ os) (n ∷ ns) same each last is =
     let runs : Ran → ℕ = λ w. w.runs in
     let work : Room → Ran = λ r. r.work in
-    let first : n.work.runs ≡ min (o.work.runs + (start_of (j + 1) size count - start_of j size count)) (2 ^ 64 - 1) = each 0 j o (omega arith) (omega arith) in
-    let rest = parts_ran size count (j + 1) os ns (omega arith) (λ k i d inside at. each (suc k) i d (omega arith) (omega (arith, at))) last (omega (arith, is)) in
+    let first : n.work.runs ≡ min (o.work.runs + (upto (j + 1) - upto j)) (2 ^ 64 - 1) = each 0 j o (omega arith) (omega arith) in
+    let rest = rooms_ran upto rise (j + 1) os ns (omega arith) (λ k i d inside at. each (suc k) i d (omega arith) (omega (arith, at))) last (omega (arith, is)) in
     let old = sum_by-cons runs o.work (map work os) in
     let new = sum_by-cons runs n.work (map work ns) in
-    let low = starts_rise j (j + 1) size count (omega arith) in
-    let high = starts_rise (j + 1) last size count (omega (arith, is)) in
+    let low = rise j (j + 1) (omega arith) in
+    let high = rise (j + 1) last (omega (arith, is)) in
     omega (arith, first, rest, old, new, low, high)
+
+-- the runs of parts from one on add up to those of the groups from its first to behind the last
+pub parts_ran : (size count j : ℕ) (olds news : List Room) → length news ≡ length olds → ((k i : ℕ) (d : Room) → k < length olds → i ≡ j + k → RunsMore (len_of i size count) (get_or olds k d).work (get_or news k d).work) → (last : ℕ) → last ≡ j + length olds → RunMore (start_of last size count - start_of j size count) (map (λ (r : Room). r.work) olds) (map (λ (r : Room). r.work) news)
+parts_ran size count = rooms_ran (λ k. start_of k size count) (λ a b. starts_rise a b size count)

@@ -18,7 +18,7 @@ use Rattle.pgtable.specs.Tables.{RunsMore}
 use Rattle.pgtable.proofs.Parts.{starts_rise}
 
 -- what stands before a place and from it up to another stands before that
-before_and_from : {X : Type 0} (a b : ℕ) (xs : List X) → a ≤ b → take a xs ++ between a b xs ≡ take b xs
+pub before_and_from : {X : Type 0} (a b : ℕ) (xs : List X) → a ≤ b → take a xs ++ between a b xs ≡ take b xs
 before_and_from a b xs up =
     ap (λ ys. take a xs ++ ys) (between_is xs a b) ∙ ap (λ ys. ys ++ drop a (take b xs)) (sym (take-take a b xs up)) ∙ take-append-drop a (take b xs)
 

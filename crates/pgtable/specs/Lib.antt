@@ -6,3 +6,4 @@ pub mod PoolPatches
 pub mod After
 pub mod Rooms
 pub mod Shares
+pub mod Stretches

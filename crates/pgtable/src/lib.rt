@@ -3,8 +3,8 @@
 //! the change can place otherwise.
 //!
 //! - `table`, `pool_table`: the table of a map and what it shows, and the part of one pool
-//! - `rooms`, `shares`: where the groups of a large pool are placed side by side, in threads: all of them, or those that a
-//!   change names
+//! - `rooms`, `shares`, `stretches`: where groups are placed side by side, in threads: all of a large pool, those of it that
+//!   a change names, or all of many pools
 //! - `mapped`, `shown`: mapped sets as they are stored, and as callers see them
 //! - `patch`, `group_patches`, `prepare`, `install`: what a change makes of a table, how it is found, and how it is put
 //!   in
@@ -27,6 +27,7 @@ pub mod rooms;
 mod sets;
 mod shares;
 mod shown;
+mod stretches;
 pub mod table;
 mod table_patch;
 mod update;

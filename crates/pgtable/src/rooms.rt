@@ -11,6 +11,7 @@ ghost use Rattle.pgtable.specs.Rooms.{start_of, part_of, parts_before, IsPart, R
 ghost use Rattle.pgtable.specs.Tables.{pool_table, RunsMore};
 
 use crate::mapped::{all_mapped_sets, mapped_set};
+use crate::pool_table::PoolTable;
 use crush::{Forest, Work};
 use grouptable::{OsdSet, SetList};
 use maptypes::Pool;
@@ -21,8 +22,8 @@ use std::marker::Model;
 use std::thread;
 use std::thread::Threads;
 
-/// A map of fewer groups in all has one room: its runs take some 20 ms.
-const MANY_GROUPS: u64 = 4_096;
+/// A map of fewer groups in all has one room: its runs take some 20 ms. Pools of fewer groups in all have no stretches.
+pub(crate) const MANY_GROUPS: u64 = 4_096;
 
 /// The groups of a smaller pool are placed in one room: their runs take some 4 ms, and starting threads 0.1.
 pub(crate) const LEAST_SHARED: u32 = 1_024;
@@ -31,12 +32,13 @@ pub(crate) const LEAST_SHARED: u32 = 1_024;
 const MAX_ROOMS: usize = 16;
 
 /// A work, and what was last made with it until it is taken, if there was memory for it: the mapped sets of a part of a
-/// pool, or other sets for a share of its groups.
+/// pool, other sets for a share of its groups, or the tables of a stretch of pools.
 #[derive(Drop)]
 pub(crate) struct Room {
     pub work: Work,
     pub made: Option<Vec<OsdSet>>,
     pub changes: Option<Vec<(u32, OsdSet)>>,
+    pub tables: Option<Vec<PoolTable>>,
 }
 
 /// One room or more. Contracts see what their works have counted.
@@ -156,15 +158,6 @@ fn join_parts(
     Ok(sets)
 }
 
-/// The sets of the parts are let go.
-fn forget_parts(rooms: &mut [Room])
-    ensures { map (λ room. room.work) rooms.new ≡ map (λ room. room.work) rooms.old }
-{
-    for i in 0..rooms.len() {
-        rooms[i].made = None;
-    }
-}
-
 /// What a room made of its share, which it then has no more.
 pub(crate) fn take_share(room: &mut Room) -> Option<Vec<(u32, OsdSet)>>
     ensures share { result ≡ room.old.changes }
@@ -173,12 +166,29 @@ pub(crate) fn take_share(room: &mut Room) -> Option<Vec<(u32, OsdSet)>>
     room.changes.take()
 }
 
-/// What is left of the shares is let go.
-pub(crate) fn forget_shares(rooms: &mut [Room])
+/// The tables that a room made, which it then has no more.
+pub(crate) fn take_tables(room: &mut Room) -> Option<Vec<PoolTable>>
+    ensures tables { result ≡ room.old.tables }
+    ensures work { room.new.work ≡ room.old.work }
+{
+    room.tables.take()
+}
+
+/// What a room made is let go.
+fn clear(room: &mut Room)
+    ensures { room.new.work ≡ room.old.work }
+{
+    room.made = None;
+    room.changes = None;
+    room.tables = None;
+}
+
+/// What is left of what the rooms made is let go.
+pub(crate) fn forget(rooms: &mut [Room])
     ensures { map (λ room. room.work) rooms.new ≡ map (λ room. room.work) rooms.old }
 {
     for i in 0..rooms.len() {
-        rooms[i].changes = None;
+        clear(&mut rooms[i]);
     }
 }
 
@@ -198,7 +208,7 @@ fn place_in_parts<R: Threads + Sync>(
     let size = (placing.pool.pg_num() as usize).div_ceil(rooms.len());
     place_parts(rt, alloc, placing, size, rooms);
     let sets = join_parts(alloc, placing, size, rooms);
-    forget_parts(rooms);
+    forget(rooms);
     sets
 }
 
@@ -213,13 +223,14 @@ fn new_rooms(alloc: Global, forest: &Forest, count: usize) -> Result<Vec<Room>, 
             work: Work::new(alloc, forest)?,
             made: None,
             changes: None,
+            tables: None,
         })?;
     }
     Ok(rooms)
 }
 
 /// How many groups the pools have in all. The count stays at the greatest number.
-fn count_groups(pools: &[Pool]) -> u64
+pub(crate) fn count_groups(pools: &[Pool]) -> u64
     ensures { result ≡ min (total_groups pools.now) (2 ^ 64 - 1) }
 {
     let mut count: u64 = 0;

@@ -3,7 +3,7 @@
 ghost use Rattle.std.specs.Prelude.{◌≡◌, ◌<◌, All};
 ghost use Rattle.pgtable.specs.After.{HasPool};
 
-use crate::rooms::{Room, forget_shares, take_share};
+use crate::rooms::{Room, forget, take_share};
 use crate::update::Update;
 use grouptable::OsdSet;
 use maptypes::Pool;
@@ -114,7 +114,7 @@ impl Shares<'_> {
     {
         self.place_all(rt, alloc, rooms);
         let changes = self.join(alloc, rooms);
-        forget_shares(rooms);
+        forget(rooms);
         changes
     }
 }

@@ -86,27 +86,9 @@ impl PgTable {
         ensures runs { OnOk result (RunMore (sum_by (λ p. p.pg_num) map.now.map.pools) rooms.old rooms.new) }
     {
         map.holds_together();
-        let pools = PgTable::pools_of(rt, alloc, map, rooms)?;
+        let pools = rooms.tables(rt, alloc, map, map.pools())?;
         let up = ups_of(alloc, map)?;
         Ok(PgTable { pools, up })
-    }
-
-    /// The tables of all pools of a map.
-    fn pools_of<R: Threads + Sync>(
-        rt: &R,
-        alloc: Global,
-        map: &OsdMap,
-        rooms: &mut Rooms,
-    ) -> Result<Vec<PoolTable>, Memory>
-        ensures tables { IfOk result (λ pools. pools.items ≡ tables_of map.now.map) }
-        ensures runs { OnOk result (RunMore (sum_by (λ p. p.pg_num) map.now.map.pools) rooms.old rooms.new) }
-    {
-        map.holds_together();
-        let mut pools = Vec::with_capacity(alloc, map.pools().len())?;
-        for pool in map.pools() {
-            pools.push(PoolTable::of(rt, alloc, map, *pool, rooms)?)?;
-        }
-        Ok(pools)
     }
 
     /// The tables of the pools.

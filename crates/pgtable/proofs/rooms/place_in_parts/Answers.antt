@@ -38,4 +38,4 @@ returns-clause-runs g c =
     let sum = parts_ran size p.pg_num 0 olds news same each (length olds) (omega arith) in
     let size_is : size ≡ p.pg_num / length olds + min 1 (p.pg_num % length olds) = rw c.pg_num.ensures.value at c.div_ceil-size.ensures in
     let whole = reach (length olds) size p.pg_num c.requires.some size_is in
-    rw c.forget_parts.ensures (omega (arith, sum, whole)))
+    rw c.forget.ensures (omega (arith, sum, whole)))

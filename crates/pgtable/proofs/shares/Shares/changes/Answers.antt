@@ -34,4 +34,4 @@ returns-clause-runs g c =
     rw here (share_ran (λ v. v.items) m s.pool.now k s.size numbers (get_or olds k d).work (get_or news k d).work (get_or news k d).changes (all k d (omega (arith, same, inside))) (c.place_all.ensures k d inside)) in
     let sum = parts_ran s.size (length numbers) 0 olds news same each (length olds) (omega arith) in
     let whole : start_of (length olds) s.size (length numbers) ≡ length numbers = omega (arith, c.requires.size) in
-    rw (c.forget_shares.ensures, c.join-changes.ensures.works) (omega (arith, sum, whole)))
+    rw (c.forget.ensures, c.join-changes.ensures.works) (omega (arith, sum, whole)))
