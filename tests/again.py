@@ -12,10 +12,13 @@ from functools import partial
 from itertools import combinations, product
 from typing import Any
 
+from rekhuso.cluster.conversion import monitor_of
+from rekhuso.cluster.disks import Disk
 from rekhuso.cluster.evenness import Spread
+from rekhuso.cluster.moving import coming, leaving
 from rekhuso.cluster.pool_data import BYTE_PARTS, Data
 from rekhuso.cluster.sources import Source
-from rekhuso.cluster.view import view_of
+from rekhuso.cluster.view import ClusterView, view_of
 from rekhuso.plans.at_rest import AtRest
 from rekhuso.plans.bounds import Measure
 from rekhuso.plans.busy import ALL
@@ -29,7 +32,8 @@ from rekhuso.plans.loads import Laid, STEP_PARTS
 from rekhuso.plans.parts import ordered_parts
 from rekhuso.plans.plan import DEFAULT_WISH, Outcome, opened, planned
 from rekhuso.plans.step_order import StepOrder, parts_in_order
-from rekhuso.plans.steps import PlanStep
+from rekhuso.plans.rounds import Live
+from rekhuso.plans.steps import PlanStep, change_by
 from rekhuso.plans.worth import fullest_after
 
 from tests.clusters import STOCK, Json, commands, copied
@@ -99,6 +103,22 @@ def rises_in(outcome: Outcome, is_parted: bool) -> list[float]:
         own = [max(ratio, full[end], full[-1]) for ratio in full[begin : end + 1]]
         found += [after - before for before, after in zip(own, own[1:]) if after > before + 1e-9]
         begin = end
+    return found
+
+
+def nearly_full(lives: list[Live], data: Data) -> dict[int, Disk]:
+    """Disks made up for a cluster: they are as its weights, four fifths of all is in use, and of none more than five
+    sixths.
+    """
+    used, weights = Counter[int](), {osd: own for live in lives for osd, own in live.before.items.items() if osd >= 0}
+    for live in lives:
+        for pool in live.pools.values():
+            for size, up in zip(data.group_bytes(pool).values(), live.before.ups_in(pool)):
+                used.update({osd: round(size) for osd in up.places if osd is not None})
+    unit, found = 1.25 * sum(used.values()) / sum(weights.values()), dict[int, Disk]()
+    for osd, weight in weights.items():
+        size = round(max(weight * unit, 1.2 * used[osd], 2**20))
+        found[osd] = Disk(size, used[osd], size - used[osd])
     return found
 
 
@@ -270,6 +290,49 @@ class PlansEnd(StockCase):
                     outcome = planned(opened(stack, whole, self.program, True), replace(DEFAULT_WISH, **more))
                     self.assertIsNotNone(outcome.measure)
                     self.assertEqual(outcome.parts and rises_in(outcome, "batch" in more), [])
+
+    def filled(self, whole: ClusterView, outcome: Outcome) -> list[float]:
+        """How full the fullest OSD is before the commands of a plan, and after each that is the last of its group: by
+        the sets that the program answers once it is given.
+        """
+        assert outcome.measure
+        share, has = outcome.measure.spread.share, dict(outcome.measure.spread.has)
+        found = [max(has.get(osd, 0) / own for osd, own in share.items() if own > 0)]
+        with ExitStack() as stack:
+            monitors = [stack.enter_context(monitor_of(value, self.program, True)) for value in whole.maps]
+            of_pool = {pool["id"]: own for value, own in zip(whole.maps, monitors) for pool in value["pools"]}
+            for step in outcome.steps:
+                monitor, size = of_pool[step.pool], outcome.measure.size(step.group)
+                was = monitor.up(step.group).places
+                for line in step.commands:
+                    monitor.change(None, **change_by([line]))
+                now = monitor.up(step.group).places
+                for osds, more in ((coming(was, now, False), size), (leaving(was, now, False), -size)):
+                    has.update({osd: has.get(osd, 0) + more for osd in osds})
+                found.append(max(has.get(osd, 0) / own for osd, own in share.items() if own > 0))
+        return found
+
+    def test_beginnings(self) -> None:
+        """However many commands of a plan are given, the fullest OSD has got no fuller by any of them, by the sets that
+        the program answers: by groups, by data, for room, and beside disks that are nearly full. It counts as no less
+        full than it is at the end; where steps are left for the sake of disks, as what it is.
+        """
+        stopped = 0
+        for name in FEW:
+            whole = view_of(Source(tuple(map(str, self.dumps(name))), None, self.program, None, None, False))
+            held = {pool["id"]: 2**30 * (1 + pool["id"] % 5) ** 3 for pool in whole.pools}
+            data = Data("", held, {}, {}, 0, 0, {}, {})
+            for way in range(5):
+                with ExitStack() as stack, self.subTest(name=name, way=way):
+                    lives = opened(stack, whole, self.program, True)
+                    own = replace(data, disks=nearly_full(lives, data) if way > 2 else {}) if way else None
+                    outcome = planned(lives, replace(DEFAULT_WISH, data=own, is_room=way in (2, 4)))
+                    full = self.filled(whole, outcome)
+                    floor = 0.0 if outcome.stopped else full[-1]
+                    rises = [max(after, floor) - max(before, floor) for before, after in zip(full, full[1:])]
+                    self.assertLessEqual(max(rises, default=0.0), 1e-9)
+                    stopped += bool(outcome.stopped and outcome.steps)
+        self.assertGreater(stopped, 2)
 
     def test_best_exchanges(self) -> None:
         """The best exchanges between two OSDs are those that a look at each two sizes finds, of which each pool offers
