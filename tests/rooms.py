@@ -24,13 +24,13 @@ from tests.clusters import Json
 from tests.rows import MAPS, with_values, written
 
 OSDS, SECONDS = 5, 300
-# A map of fewer groups has one room, and so has a pool of fewer unless rooms take whole pools. There are as many rooms as
-# processors, 16 at most.
+# A map of fewer groups has one room, and so has a pool of fewer unless rooms take whole pools. There are as many rooms
+# as processors, 16 at most.
 MANY, LARGE, MOST = 4096, 1024, 16
 # Each group is placed when the map is opened, and by each of three changes.
 CHANGES = 3
-# Sizes of pools: about those limits, once fewer pools than there may be processors; many small ones that differ; and one
-# that is large beside many small ones.
+# Sizes of pools: about those limits, once fewer pools than there may be processors; many small ones that differ; and
+# one that is large beside many small ones.
 SIZES = ((1023, 1024, 2049), (4095,), (3, 1023, 3070), (1, 500, 3, 512, *(110,) * 28), (2050, *(66,) * 31))
 # The processors that there are, and whether rooms get threads.
 WAYS = (("on all processors", None, True), ("on one processor", 1, True), ("with threads refused", None, False))
