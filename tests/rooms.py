@@ -31,7 +31,7 @@ MANY, LARGE, MOST = 4096, 1024, 16
 CHANGES = 3
 # Sizes of pools: about those limits, once fewer pools than there may be processors; many small ones that differ; and
 # one that is large beside many small ones.
-SIZES = ((1023, 1024, 2049), (4095,), (3, 1023, 3070), (1, 500, 3, 512, *(110,) * 28), (2050, *(66,) * 31))
+SIZES = ((1023, 1024, 2049), (4095,), (3, 1023, 3070), (1, 60, 3, 64, *(62,) * 64), (2050, *(66,) * 31))
 # The processors that there are, and whether rooms get threads.
 WAYS = (("on all processors", None, True), ("on one processor", 1, True), ("with threads refused", None, False))
 
@@ -92,7 +92,7 @@ class Rooms(Case):
         marks.unlink(missing_ok=True)
         given = {"LD_PRELOAD": str(library), "REFUSE_THREADS": str(1000 if spared else 0), "THREADS": str(marks)}
         given["SPARE_THREAD"] = str(spared)
-        words: list[Any] = [self.program, *files]
+        words: list[Any] = [self.program, "--stock", *files]
         if most is not None:
             words = ["taskset", "-c", str(min(os.sched_getaffinity(0))), *words]
         done = subprocess.run(words, env={**os.environ, **given}, timeout=SECONDS, capture_output=True, text=True)
@@ -102,11 +102,11 @@ class Rooms(Case):
     def asked_for(self, sizes: tuple[int, ...], most: int | None) -> tuple[int, int]:
         """How many threads a run asks for when it opens the map, and at each change: for each large pool as many as
         there are rooms but one, whose part is placed in the thread that opens or changes the map. Where no pool has
-        more than half of what a room is to place, the rooms take whole pools at opening, and threads are asked for
-        once. A change that names all groups asks for as many as one that touches all pools."""
+        more than a sixteenth of what a room is to place, the rooms take whole pools at opening, and threads are asked
+        for once. A change that names all groups asks for as many as one that touches all pools."""
         rooms = min(most or MOST, processors(), MOST) if sum(sizes) >= MANY else 1
         for_large = (rooms - 1) * sum(1 for groups in sizes if groups >= LARGE)
-        is_even = 2 * max(sizes) <= sum(sizes) // rooms + 1
+        is_even = 16 * max(sizes) <= sum(sizes) // rooms + 1
         return rooms - 1 if is_even else for_large, for_large
 
     def test_sizes(self) -> None:
