@@ -1,13 +1,12 @@
 -- Members of an object, as they are put in one after another.
-use Rattle.std.proofs.Common.{◌≡◌, ℕ, Bool, true, false, ◌&&◌, List, [], ◌∷◌, Ordering, Less, Equal, Greater, nat_cmp, is_eq, bytes_eq, true≢false, Option, Some, option_map, if◌then◌else◌, refl, sym, ap, ◌∙◌}
+use Rattle.std.proofs.Common.{◌≡◌, ℕ, Bool, true, false, ◌&&◌, List, Ordering, Less, Equal, Greater, nat_cmp, is_eq, bytes_eq, true≢false, Option, option_map, refl, sym, ap, ◌∙◌}
 use Rattle.std.specs.List.{list_any}
 use Rattle.std.specs.Ordering.{match_ordering}
 use Rattle.std.specs.Cmp.Lexicographic.{slice_cmp}
 use Rattle.std.proofs.lemmas.Slice.Eq.{bytes_eq-Decides}
 use Rattle.std.proofs.lemmas.Map.Text.{is_eq-slice_cmp}
 use Rattle.serde_json.specs.Data.{Data, Members, no_members, member, put}
-use Rattle.serde_json.specs.Find.{get_member}
-use Rattle.serde_json.proofs.Views.{get_member-put, get_member-put_other}
+use Rattle.serde_json.proofs.Views.{get_member-put_other}
 use Rattle.jsonstream.specs.Stream.{member_slot}
 use Rattle.jsonstream.specs.Json.{has_only_keys}
 
@@ -27,15 +26,6 @@ turned false false c = refl
 apart : (q k : List ℕ) → bytes_eq q k ≡ false → q ≡ k → ⊥
 apart q k e same = true≢false (sym ((bytes_eq-Decides q k).1 same) ∙ e)
 
--- a slot after one member more, by whether its key is the one put in
-slot_put_at : {X : Type 0} (b : Bool) (stated : Data → Option X) (q k : List ℕ) (d : Data) (ms : Members) → bytes_eq q k ≡ b → member_slot stated q (put k d ms) ≡ (if b then Some (stated d) else member_slot stated q ms)
-slot_put_at true stated q k d ms e = let same : q ≡ k = (bytes_eq-Decides q k).0 e in ap (λ n. option_map stated (get_member n (put k d ms))) same ∙ ap (option_map stated) (get_member-put k d ms)
-slot_put_at false stated q k d ms e = ap (option_map stated) (get_member-put_other q k d ms (apart q k e))
-
--- a member that is put in is found at its own key, and no other is lost
-pub slot_put : {X : Type 0} (stated : Data → Option X) (q k : List ℕ) (d : Data) (ms : Members) → member_slot stated q (put k d ms) ≡ (if bytes_eq q k then Some (stated d) else member_slot stated q ms)
-slot_put stated q k d ms = slot_put_at (bytes_eq q k) stated q k d ms refl
-
 -- the keys after one member more, by the order of the first two
 known_at : (o : Ordering) (names : List (List ℕ)) (k l : List ℕ) (d e : Data) (ms : Members) → slice_cmp nat_cmp k l ≡ o
     → has_only_keys names (put k d ms) ≡ (list_any (bytes_eq k) names && has_only_keys names ms)
@@ -54,22 +44,3 @@ known_put names k d (member l e ms) = known_at _ names k l d e ms refl (known_pu
 -- a member that is put in at another key changes no slot
 pub slot_kept : {X : Type 0} (stated : Data → Option X) (q k : List ℕ) (d : Data) (ms : Members) → (k ≡ q → ⊥) → member_slot stated q (put k d ms) ≡ member_slot stated q ms
 slot_kept stated q k d ms other = ap (option_map stated) (get_member-put_other q k d ms (λ same. other (sym same)))
-
--- texts that differ are not equal byte by byte
-differ_at : (b : Bool) (k n : List ℕ) → bytes_eq k n ≡ b → (k ≡ n → ⊥) → bytes_eq k n ≡ false
-differ_at true k n e other = absurd (other ((bytes_eq-Decides k n).0 e))
-differ_at false k n e other = e
-
--- the key is none of the names
-abbrev pub NoneOf : List ℕ → List (List ℕ) → Type 0
-NoneOf k [] = Unit {0}
-NoneOf k (n ∷ names) = (k ≡ n → ⊥) × NoneOf k names
-
--- a key that is none of some names is not among them
-unknown : (names : List (List ℕ)) (k : List ℕ) → NoneOf k names → list_any (bytes_eq k) names ≡ false
-unknown [] k others = refl
-unknown (n ∷ names) k others = let here = differ_at (bytes_eq k n) k n refl others.0 in rw here (unknown names k others.1)
-
--- an object has a key beside the names where the one put in is none of them
-pub unknown_put : (names : List (List ℕ)) (k : List ℕ) (d : Data) (ms : Members) → NoneOf k names → has_only_keys names (put k d ms) ≡ false
-unknown_put names k d ms others = known_put names k d ms ∙ ap (λ b. b && has_only_keys names ms) (unknown names k others)

@@ -4,7 +4,7 @@ use Rattle.std.specs.List.{list_all, list_any}
 use Rattle.std.specs.Option.{option_map_or}
 use Rattle.std.specs.Str.{bytes_eq, is_utf8}
 use Rattle.serde_json.specs.Data.{Data, Items, no_items, item, Members, no_members, member}
-use Rattle.serde_json.specs.Find.{get, at, as_number, as_integer, as_array, as_object}
+use Rattle.serde_json.specs.Find.{at, as_number, as_integer, as_array}
 use Rattle.serde_json.specs.Read.{read}
 use Rattle.refusal.specs.declared.refused.Refusal.{Refusal}
 use Rattle.refusal.specs.declared.refused.Refusal.TheVariants.{BadJson, BadField, Memory as OutOfMemory}
@@ -69,22 +69,6 @@ keys_of (member k d ms) = k ∷ keys_of ms
 -- each key is among these names
 abbrev pub has_only_keys : List (List ℕ) → Members → Bool
 has_only_keys names ms = list_all (λ k. list_any (bytes_eq k) names) (keys_of ms)
-
--- an object that has no other keys than these
-abbrev pub has_only : List (List ℕ) → Data → Bool
-has_only names d = option_map_or (has_only_keys names) (as_object d) false
-
--- the value at a key, which has to be there
-abbrev pub field : {X : Type 0} → (Data → Option X) → List ℕ → Data → Option X
-field stated key d = option_and_then stated (get key d)
-
--- the list at a key, which is empty where the key is missing
-abbrev pub optional_list : {X : Type 0} → (Data → Option X) → List ℕ → Data → Option (List X)
-optional_list stated key d = option_map_or (stated_list stated) (get key d) (Some [])
-
--- what the value at a key states, where the key is there
-abbrev pub optional : {X : Type 0} → (Data → Option X) → List ℕ → Data → Option (Option X)
-optional stated key d = option_map_or (λ v. option_map (λ x. Some x) (stated v)) (get key d) (Some None)
 
 -- ---- texts
 

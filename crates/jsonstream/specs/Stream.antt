@@ -3,7 +3,7 @@ use Rattle.std.specs.Prelude.{◌≡◌, ◌++◌, Bool, true, false, List, [], 
 use Rattle.serde_json.specs.Find.{get_member}
 use Rattle.json.specs.Token.{Token}
 use Rattle.json.specs.Json.{value, items, members, parse_map, if_last}
-use Rattle.serde_json.specs.Data.{Data, Items, no_items, item, Members, no_members, put}
+use Rattle.serde_json.specs.Data.{Data, Items, no_items, item, Members, no_members}
 use Rattle.serde_json.specs.Read.{of_json, of_items, of_members, converted, max_depth}
 use Rattle.refusal.specs.declared.refused.Refusal.{Refusal}
 use Rattle.refusal.specs.declared.refused.Refusal.TheVariants.{BadJson, Memory as OutOfMemory}
@@ -55,13 +55,6 @@ or_empty (Some xs) = xs
 abbrev pub if_there : {X : Type 0} → Option (Option X) → Option (Option X)
 if_there None = Some None
 if_there (Some x) = option_map (λ y. Some y) x
-
--- a call takes one member into what is held
-abbrev pub TakesMember : {U S : Type 0} → (S → Members → Type 0) → List ℕ → Option (Data × List Token) → S
-    → Result U Refusal → S → List Token → Type 0
-TakesMember hold key there before r after rest = MatchResult r
-    (λ _. (d : Data) × (there ≡ Some (d, rest)) × ((ms : Members) → hold before ms → hold after (put key d ms)))
-    (λ e. (e ≡ OutOfMemory) ⊎ ((e ≡ BadJson) × (there ≡ None)))
 
 -- the digits of a token that is a number
 abbrev pub token_number : Token → Option (List ℕ)
