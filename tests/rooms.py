@@ -102,11 +102,11 @@ class Rooms(Case):
     def asked_for(self, sizes: tuple[int, ...], most: int | None) -> tuple[int, int]:
         """How many threads a run asks for when it opens the map, and at each change: for each large pool as many as
         there are rooms but one, whose part is placed in the thread that opens or changes the map. Where no pool has
-        more than a sixteenth of what a room is to place, the rooms take whole pools at opening, and threads are asked
-        for once. A change that names all groups asks for as many as one that touches all pools."""
+        more than a quarter of what a room is to place, the rooms take whole pools at opening, and threads are asked for
+        once. A change that names all groups asks for as many as one that touches all pools."""
         rooms = min(most or MOST, processors(), MOST) if sum(sizes) >= MANY else 1
         for_large = (rooms - 1) * sum(1 for groups in sizes if groups >= LARGE)
-        is_even = 16 * max(sizes) <= sum(sizes) // rooms + 1
+        is_even = 4 * max(sizes) <= sum(sizes) // rooms + 1
         return rooms - 1 if is_even else for_large, for_large
 
     def test_sizes(self) -> None:

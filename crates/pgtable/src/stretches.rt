@@ -157,13 +157,11 @@ impl Stretches<'_> {
     }
 }
 
-/// Whether one of some pools has more than a sixteenth of so many groups.
+/// Whether one of some pools has more than a quarter of so many groups.
 fn has_large(pools: &[Pool], size: u64) -> bool
-    ensures { result ≡ list_any (λ p. nat_lt size (p.pg_num * 16)) pools.now }
+    ensures { result ≡ list_any (λ p. nat_lt size (p.pg_num * 4)) pools.now }
 {
-    pools
-        .iter()
-        .any(|pool| size < u64::from(pool.pg_num()) * 16)
+    pools.iter().any(|pool| size < u64::from(pool.pg_num()) * 4)
 }
 
 impl Rooms {
