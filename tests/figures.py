@@ -233,9 +233,16 @@ TIES = [
     ),
     Tie(
         "docs/FORMATS.md",
-        "a pair for each of 1,048,576 groups takes {} ms, explicit sets of 20 for 65,536 groups {} ms",
-        one("cliffs", "one change: a pair for each of 1,048,576 groups of 256 pools", "it takes")
-        + one("cliffs", "one change: explicit sets for 65,536 groups of size 20 over 40 OSDs", "it takes"),
+        "a pair for each of 1,048,576 groups takes {} ms",
+        one("cliffs", "a pair for each of 1,048,576 groups", "it takes"),
+    ),
+    Tie(
+        "docs/FORMATS.md",
+        "for each of their groups as well: {}, {} and {} ms for as many, where opening such a map takes {} ms",
+        one("cliffs", "a reweight of one OSD, 1,048,576 groups of 256 pools", "it takes")
+        + one("cliffs", "another CRUSH map, 1,048,576 groups of 256 pools", "it takes")
+        + one("cliffs", "255 pools of 4,096 groups that come", "it takes")
+        + one("cliffs", "opening 1,048,576 groups of 256 pools", "it takes"),
     ),
     Tie("docs/PROVED.md", "It takes {} to {} minutes and proves nothing", said=("gate", RUNS)),
     *(
