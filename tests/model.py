@@ -348,12 +348,11 @@ class Cluster:
         if not {"old_pools", "new_crush", "new_pools", "grow_pool", "weight"}.isdisjoint(change):
             self.raws = {}
         self.epoch += 1
-        return sum(self.is_new(group, change) for group in self.groups())
+        named = named_groups(change)
+        return sum(self.is_new(group, change, named) for group in self.groups())
 
-    def is_new(self, group: Group, change: Json) -> bool:
-        """Whether a change may place a group otherwise."""
-        named = {group_of(text) for key in ("old_upmap", "old_items") for text in change.get(key, [])}
-        named |= {group_of(text) for key in ("new_upmap", "new_items") for text, _ in change.get(key, [])}
+    def is_new(self, group: Group, change: Json, named: set[Group]) -> bool:
+        """Whether a change that names these groups may place a group otherwise."""
         pools = {pool["id"] for pool in change.get("new_pools", [])} | {
             pool for pool, *_ in change.get("grow_pool", [])
         }
@@ -466,6 +465,12 @@ def group_of(text: str) -> Group:
 
 def group_text(group: Group) -> str:
     return f"{group[0]}.{group[1]:x}"
+
+
+def named_groups(change: Json) -> set[Group]:
+    """The groups whose exceptions a change names."""
+    gone = {group_of(text) for key in ("old_upmap", "old_items") for text in change.get(key, [])}
+    return gone | {group_of(text) for key in ("new_upmap", "new_items") for text, _ in change.get(key, [])}
 
 
 def set_text(places: Places) -> str:

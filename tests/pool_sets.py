@@ -4,9 +4,12 @@ from __future__ import annotations
 
 import json
 import pathlib
+import random
 import subprocess
 import tempfile
 
+from rekhuso.program import answers
+from rekhuso.program.agreement import POOL, are_whole_sets
 from tests.cases import EXAMPLE, Case
 from tests.clusters import Json
 from tests.whole_maps import FULL, ON_OSDS, map_of, osd_of, pool_of, rule_of
@@ -18,6 +21,8 @@ ON_PARTS = [["take", -1], ["chooseleaf_indep", 0, 1], ["emit"]]
 # The pools with their groups: one, as many as a pool may have, and an erasure pool.
 ONE, MOST, PARTS = 1, 2, 7
 GROUPS = {ONE: 1, MOST: 65_536, PARTS: 300}
+# What stands in place of a letter of sets in texts near to them, and how many of these are tried.
+NEAR, TEXTS = ("", "[", "]", ",", " ", "1", "23", "] [", "none", "-", ".", "\t", "\u0663"), 20_000
 
 
 def stated() -> Json:
@@ -84,6 +89,28 @@ class PoolSets(Case):
         forms = ["", " ", " 01", " +1", " -1", " 1 ", "  1", " 1.0", " 4294967296", " 1 2", "1"]
         lines = [f"{word}{form}" for word in ("ups", "fups") for form in forms]
         self.assertEqual(self.answers(lines, "--stock"), ["err 33 BadCommand"] * len(lines))
+
+    def test_forms(self) -> None:
+        """The tools take a text without empty places for one of sets where it has their form by its letters."""
+        rng, texts = random.Random(5), set[str]()
+        for _ in range(TEXTS):
+            sets = [",".join(rng.choices(("0", "7", "512"), k=rng.randint(0, 3))) for _ in range(rng.randint(1, 3))]
+            text = " ".join(f"[{own}]" for own in sets)
+            at = rng.randrange(len(text))
+            texts.update((text, text[:at] + rng.choice(NEAR) + text[at + rng.randint(0, 1) :]))
+        unlike = [text for text in texts if "none" not in text and are_whole_sets(text) != bool(POOL.fullmatch(text))]
+        self.assertEqual(unlike, [])
+        self.assertEqual([text for text in texts if "none" in text and are_whole_sets(text)], [])
+        self.assertTrue(1000 < sum(map(are_whole_sets, texts)) < len(texts) - 1000)
+
+    def test_ups(self) -> None:
+        """The sets of a pool have the primaries that each of them has by itself."""
+        some: list[list[int | None]] = [[1, 2], [3], [], [None, 2], [1, None], [None, None]]
+        for count in range(len(some) + 1):
+            with self.subTest(count=count):
+                own = answers.PoolSets(7, some[:count])
+                wanted = [answers.Up(7, places, answers.primary_of(places)) for places in own.sets]
+                self.assertEqual(list(answers.ups_in(own)), wanted)
 
     def test_plain(self) -> None:
         """Without `--stock` there are no such lines."""

@@ -24,7 +24,7 @@ from rekhuso import Fault, Monitor, Refused, Session, Unopened
 from tests import model
 from tests.cases import EXAMPLE, example
 from tests.histories import CHANGES, TABLES, fill, held, rows, store_at
-from tests.stores import store_program
+from tests.stores import but_for_claims, store_program
 from tests.terminals import Terminal
 from tests.tool_cases import AS_STORE, TOOLS, ToolCase
 
@@ -257,7 +257,8 @@ class PythonStores(ToolCase):
         self.assertFalse(self.path("other").exists())
 
     def test_looking(self) -> None:
-        """Who only looks at a store leaves the bytes of its file as they are, however many changes it has."""
+        """Who only looks at a store leaves the bytes of its file as they are, however many changes it has; a session
+        that changes nothing leaves all but the number of the schema."""
         with store_at(self.path(), *TABLES) as database:
             fill(database, example(), [(1 + base, f'plain {{"base":{base},"up":[1]}}') for base in range(1, 1 + MANY)])
         with self.monitor(name="store"):
@@ -275,10 +276,12 @@ class PythonStores(ToolCase):
         for name, look in looks.items():
             with self.subTest(name=name):
                 look()
-                self.assertEqual(self.path().read_bytes(), before)
+                left = self.path().read_bytes()
+                self.assertEqual(but_for_claims(left), but_for_claims(before))
+                self.assertTrue(left == before or name == "shell")
         with self.monitor() as monitor:
             self.assertEqual(monitor.epoch(), 1 + MANY)
-        self.assertEqual(self.path().read_bytes(), before)
+        self.assertEqual(but_for_claims(self.path().read_bytes()), but_for_claims(before))
 
     def shell(self, *words: object, typed: str) -> tuple[int, str, str]:
         """What a shell tells over lines that are typed."""

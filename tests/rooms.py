@@ -2,10 +2,10 @@
 from which there is more than one room; and many small pools, alone and beside a large one.
 
 Each map is opened three times: on all processors that there are; on one; and with all threads refused that the program
-asks for, but for that of its session. Then an OSD gets another reweight, another CRUSH map comes, and each group gets a
-pair. What each change evaluates, the up set of each group and the groups of each OSD, at the beginning and after each
-change, are those of model.py each time. How many threads the program asks for is told by a library that is loaded
-before it (refuse_threads.c).
+asks for, but for that of its session. Then an OSD gets another reweight, another CRUSH map comes, in front of each pool
+comes one of as many groups, and each group of the first pools gets a pair. What each change evaluates, the up set of
+each group and the groups of each OSD, at the beginning and after each change, are those of model.py each time. How many
+threads the program asks for is told by a library that is loaded before it (refuse_threads.c).
 """
 
 from __future__ import annotations
@@ -27,8 +27,8 @@ OSDS, SECONDS = 5, 300
 # A map of fewer groups has one room, and so has a pool of fewer unless rooms take whole pools. There are as many rooms
 # as processors, 16 at most.
 MANY, LARGE, MOST = 4096, 1024, 16
-# Each group is placed when the map is opened, and by each of three changes.
-CHANGES = 3
+# So many changes touch pools as a whole; one more names all groups of the first pools.
+WHOLE = 3
 # Sizes of pools: about those limits, once fewer pools than there may be processors; many small ones that differ; and
 # one that is large beside many small ones.
 SIZES = ((1023, 1024, 2049), (4095,), (3, 1023, 3070), (1, 60, 3, 64, *(62,) * 64), (2050, *(66,) * 31))
@@ -37,9 +37,9 @@ WAYS = (("on all processors", None, True), ("on one processor", 1, True), ("with
 
 
 def a_map(sizes: tuple[int, ...]) -> Json:
-    """A map with pools of so many groups, over OSDs of which one is down and one half out."""
+    """A map with pools of so many groups and even numbers, over OSDs of which one is down and one half out."""
     pools = [
-        {"id": number, "kind": "replicated", "pg_num": groups, "pgp_num": groups, "rule": 0, "size": 2}
+        {"id": 2 * number, "kind": "replicated", "pg_num": groups, "pgp_num": groups, "rule": 0, "size": 2}
         for number, groups in enumerate(sizes, 1)
     ]
     osds = [{"exists": True, "id": osd, "up": osd != 4, "weight": 32768 if osd == 2 else 65536} for osd in range(OSDS)]
@@ -49,7 +49,7 @@ def a_map(sizes: tuple[int, ...]) -> Json:
 
 
 def changes_of(value: Json) -> list[str]:
-    """Changes of all groups of such a map: a reweight, another CRUSH map, and a pair for each."""
+    """Changes of all groups of such a map: a reweight, another CRUSH map, as many pools more, and a pair for each."""
     buckets = [
         {**bucket, "items": [[osd, 65536 * (3 - osd % 3)] for osd in range(OSDS)]} for bucket in value["buckets"]
     ]
@@ -59,9 +59,26 @@ def changes_of(value: Json) -> list[str]:
     changes: list[Json] = [
         {"weight": [[0, 32768]]},
         {"new_crush": {"buckets": buckets, "rules": value["rules"]}},
+        {"new_pools": [{**pool, "id": pool["id"] - 1} for pool in value["pools"]]},
         {"new_items": pairs},
     ]
     return [f"change {json.dumps({'base': at, **change})}" for at, change in enumerate(changes, value["epoch"])]
+
+
+def questions(ids: list[int], sizes: tuple[int, ...]) -> list[str]:
+    """The lines that ask for the groups of pools of so many groups, and for those of each OSD."""
+    asks = [f"up {pool}.{group:x}" for pool, groups in zip(ids, sizes) for group in range(groups)]
+    return asks + [f"groups {osd}" for osd in range(OSDS)]
+
+
+def lines_of(value: Json, sizes: tuple[int, ...]) -> list[str]:
+    """The changes of such a map, with questions in front of the first and behind each: for the pools that come behind
+    the change that brings them, else for the first ones."""
+    first = [pool["id"] for pool in value["pools"]]
+    own, theirs = questions(first, sizes), questions([pool - 1 for pool in first], sizes)
+    changes = enumerate(changes_of(value), 1)
+    behind = (line for at, change in changes for line in (change, *(theirs if at == WHOLE else own)))
+    return [*own, *behind]
 
 
 def processors() -> int:
@@ -100,10 +117,10 @@ class Rooms(Case):
         return done.stdout, marks.read_text() if marks.exists() else ""
 
     def asked_for(self, sizes: tuple[int, ...], most: int | None) -> tuple[int, int]:
-        """How many threads a run asks for when it opens the map, and at each change: for each large pool as many as
-        there are rooms but one, whose part is placed in the thread that opens or changes the map. Where no pool has
-        more than a quarter of what a room is to place, the rooms take whole pools at opening, and threads are asked for
-        once. A change that names all groups asks for as many as one that touches all pools."""
+        """How many threads a run asks for when it opens the map or a change touches pools as a whole, and when one
+        names all groups: for each large pool as many as there are rooms but one, whose part is placed in the thread
+        that opens or changes the map. Where no pool has more than a quarter of what a room is to place, the rooms take
+        whole pools when the map is opened or the change touches them as a whole, and threads are asked for once."""
         rooms = min(most or MOST, processors(), MOST) if sum(sizes) >= MANY else 1
         for_large = (rooms - 1) * sum(1 for groups in sizes if groups >= LARGE)
         is_even = 4 * max(sizes) <= sum(sizes) // rooms + 1
@@ -114,9 +131,7 @@ class Rooms(Case):
         self.needs("taskset", shutil.which("taskset") is not None)
         for sizes in SIZES:
             value = a_map(sizes)
-            asks = [f"up {number}.{group:x}" for number, groups in enumerate(sizes, 1) for group in range(groups)]
-            asks += [f"groups {osd}" for osd in range(OSDS)]
-            lines = asks + [line for change in changes_of(value) for line in (change, *asks)]
+            lines = lines_of(value, sizes)
             wanted = "".join(line + "\n" for line in ["session 1", *model.answers(value, lines)])
             with tempfile.TemporaryDirectory() as name:
                 folder = pathlib.Path(name)
@@ -125,8 +140,8 @@ class Rooms(Case):
                 files[1].write_text("".join(line + "\n" for line in lines))
                 for way, most, gets_threads in WAYS:
                     with self.subTest(f"pools of {sizes} groups {way}"):
-                        first, later = self.asked_for(sizes, most)
+                        first, named = self.asked_for(sizes, most)
                         # The thread of the session comes behind those that place the groups of the map.
                         answers, threads = self.opened(files, library, most, 0 if gets_threads else first + 1)
                         self.assertEqual(answers, wanted)
-                        self.assertEqual(len(threads), first + CHANGES * later + 1)
+                        self.assertEqual(len(threads), first + WHOLE * first + named + 1)

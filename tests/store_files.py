@@ -61,6 +61,8 @@ UNOPENED, DAMAGED = "the file cannot be opened", "the store is damaged, or anoth
 MIXED = "the store has a change of another store: its log is not its own"
 BAD_WORD = "the word of --by is not 1 to 64 characters of visible ASCII\n"
 NOBODY = 65534
+# The bytes of a log that holds nothing.
+EMPTY_LOG = 41
 # So many places of a store, and so many of its log, are damaged, and so many lengths cut, beside those at edges.
 PLACES, LOG_PLACES, LENGTHS = (2000, 2000, 200) if os.environ.get("LONG") else (200, 80, 20)
 
@@ -512,7 +514,7 @@ class StoreFiles(StoreCase):
 
     def test_looking(self) -> None:
         """A start without a script cuts nothing off, however many changes there are, and leaves the file as it is; one
-        with a script leaves the last 1,024, where there are more than twice so many."""
+        with a script claims its log, and leaves the last 1,024 where there are more than twice so many."""
         most, more = 1024, 2050
         self.made(*(text for _, text in TABLES))
         with opened(self.store) as database:
@@ -531,7 +533,7 @@ class StoreFiles(StoreCase):
                 done = self.ran(*words)
                 self.assertEqual((done.status, done.output.splitlines()[0]), (0, f"epoch {1 + more}"))
                 self.assertEqual(len(held(self.store).rows), left)
-                self.assertEqual(self.store.read_bytes() == before, left == more)
+                self.assertEqual(self.store.read_bytes() == before, "-" not in words)
 
     def test_journal(self) -> None:
         """A run takes as many changes as its journal has room for, and the next run as many again."""
@@ -787,15 +789,19 @@ class StoreFiles(StoreCase):
 
     def test_damaged_log(self) -> None:
         """A store whose log has a byte that is another, or lacks its end, is one that has lost last changes, or is
-        refused."""
+        refused. One whose log has lost its header, too, is refused as one without a log."""
         data, log = self.with_log()
         self.histories_known = self.histories()
         self.assertEqual(self.damaged(data, log).output.splitlines()[0], f"epoch {LAST}")
-        used, rng = len(log.rstrip(b"\0")), random.Random(3)
+        used, least, rng = len(log.rstrip(b"\0")), EMPTY_LOG, random.Random(3)
         for place in sorted({*range(56), *rng.sample(range(used), LOG_PLACES)}):
             changed = bytearray(log)
             changed[place] ^= 1 << rng.randrange(8)
             self.judge_log(data, bytes(changed), f"place {place}")
-        for length in sorted({1, 31, 32, 33, 55, 56, *rng.sample(range(used), LENGTHS), used - 1, used, len(log) - 1}):
+        lengths = {least, 55, 56, *rng.sample(range(least, used), LENGTHS), used - 1, used, len(log) - 1}
+        for length in sorted(lengths):
             self.judge_log(data, log[:length], f"length {length}", is_whole=True)
-        self.judge_log(data, b"", "no log", is_whole=True)
+        lost = "its log is missing: bring it back, or by --without-log 1 lose what it has behind that epoch"
+        for length in (0, 1, 31, 32, 33, least - 1):
+            with self.subTest(length=length):
+                self.assertEqual(self.damaged(data, log[:length]), Done(5, "", f"store: {lost}\n"))

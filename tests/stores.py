@@ -30,6 +30,8 @@ FULL = "journal: full, so this run takes no more changes\n"
 NOTE = re.compile(r"^life=([0-9]+),made=([0-9]+)(?:,by=([^ ]+))? ")
 # The bytes at the end of each page that have its sum, and where the first page says how many there are.
 SUM_BYTES, RESERVED_AT = 8, 20
+# Where the first page has the number of the schema, in four bytes.
+COOKIE_AT = 40
 
 
 def store_program() -> pathlib.Path:
@@ -125,6 +127,12 @@ def page_size(data: bytes) -> int:
     """The size of a database's pages, by its first one."""
     (size,) = struct.unpack(">H", data[16:18])
     return 65536 if size == 1 else int(size)
+
+
+def but_for_claims(data: bytes) -> bytes:
+    """The bytes of a store, but for the number of its schema, which a claim and its end raise, and for the sum of the
+    first page."""
+    return data[:COOKIE_AT] + data[COOKIE_AT + 4 : page_size(data) - SUM_BYTES] + data[page_size(data) :]
 
 
 def sum_of(page: bytes) -> bytes:

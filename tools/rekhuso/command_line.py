@@ -196,6 +196,8 @@ def main() -> int:
             print("\n".join(lines), file=sys.stderr)
         with contextlib.suppress(OSError, AttributeError):
             put_out()
+        # What is left goes with the process: it is not looked through once more while Python ends.
+        gc.freeze()
         # All is told; while Python ends, Ctrl-C is again what it was while Python began.
         set_interrupt(signal.default_int_handler if is_ours else None, signal.SIG_DFL)
         return status

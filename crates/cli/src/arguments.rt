@@ -1,13 +1,11 @@
 //! The arguments that the programs have in common, and what the parser finds for them.
 
-ghost use Rattle.std.specs.Prelude.{◌≡◌, ◌≤◌, IfOk, MatchOption, length, map, option_map, unwrap_or, string_bytes, vec_len, codes, []};
+ghost use Rattle.std.specs.Prelude.{◌≡◌, IfOk, MatchOption, length, map, option_map, unwrap_or, string_bytes, vec_len, codes, []};
 ghost use Rattle.clap.specs.Matches.{found_of};
 ghost use Rattle.clap.specs.Values.{kind_of};
 ghost use Rattle.clap.specs.Walk.{rows_of, first_of};
-ghost use Rattle.epochlog.specs.Epochs.{max_capacity};
-ghost use Rattle.server.specs.Serving.{max_scripts};
 ghost use Rattle.cli.specs.Arguments.{journal_rule, stock_rule, to_rule, IsReadBy, HasNoJournal, IsJournalIn, IsProfileIn};
-ghost use Rattle.cli.specs.Arguments.{paths_in, ArePaired, AreFoundSessions, Chooses, TellsOf};
+ghost use Rattle.cli.specs.Arguments.{paths_in, AreFoundSessions, Chooses, TellsOf};
 
 use crate::choices::{LineError, SessionOptions};
 use clap::error::ErrorKind;
@@ -130,11 +128,7 @@ fn paths_for(alloc: Global, matches: &ArgMatches<'_>, id: &str) -> Result<Vec<St
 /// The options of sessions in words that the parser took. A value that it had to find and did not is told as out of
 /// memory.
 pub fn session_options(alloc: Global, matches: &ArgMatches<'_>) -> Result<SessionOptions, LineError>
-    ensures least { IfOk result (λ o. 1 ≤ o.journal) }
-    ensures most { IfOk result (λ o. o.journal ≤ max_capacity) }
-    ensures few { IfOk result (λ o. vec_len o.scripts ≤ max_scripts) }
-    ensures paired { IfOk result (λ o. ArePaired (vec_len o.scripts) (vec_len o.answers)) }
-    ensures taken { Chooses AreFoundSessions (rows_of (found_of matches.now)) result }
+    ensures { Chooses AreFoundSessions (rows_of (found_of matches.now)) result }
 {
     let journal = journal_in(matches).ok_or(LineError::Memory)?;
     if journal < 1 || journal > MAX_CAPACITY {

@@ -1,4 +1,8 @@
 //! What a command line asks of sessions, and why it asks for no run.
+ghost use Rattle.std.specs.Prelude.{◌≡◌, ◌≢◌, ◌≤◌, vec_len};
+ghost use Rattle.epochlog.specs.Epochs.{max_capacity};
+ghost use Rattle.server.specs.Serving.{max_scripts};
+
 use mapparts::Profile;
 use std::alloc::AllocError;
 use thiserror::Error;
@@ -14,6 +18,10 @@ pub struct SessionOptions {
     pub scripts: Vec<String>,
     /// The paths of their answers, one for each script, or none.
     pub answers: Vec<String>,
+    pub ghost least: { 1 ≤ journal },
+    pub ghost most: { journal ≤ max_capacity },
+    pub ghost few: { vec_len scripts ≤ max_scripts },
+    pub ghost paired: { vec_len answers ≢ 0 → vec_len answers ≡ vec_len scripts },
 }
 
 /// Why there are no options.

@@ -2,7 +2,7 @@
 
 ghost use Rattle.std.specs.Prelude.{◌≡◌, ◌≤◌, IfOk, IfErr, length, vec_len, nat_lt, count_by};
 ghost use Rattle.std.specs.declared.io.ErrorKind.{ErrorKind};
-ghost use Rattle.cli.specs.Arguments.{ArePaired, is_standard};
+ghost use Rattle.cli.specs.Arguments.{is_standard};
 ghost use Rattle.cli.specs.declared.ending.Ending.TheVariants.{Output};
 ghost use Rattle.cli.specs.Endings.{file_ending, status_of, ChecksStreams};
 
@@ -142,7 +142,6 @@ pub fn parts_of<'a, R: Files + AllocGlobal>(
     options: &'a SessionOptions,
     mark: Option<&Arc<AtomicBool>>,
 ) -> Result<Vec<Part>, Ending<'a>>
-    requires { ArePaired (vec_len options.now.scripts) (vec_len options.now.answers) }
     ensures count { IfOk result (λ parts. vec_len parts ≡ vec_len options.now.scripts) }
     ensures status { IfErr result (λ e. 3 ≤ status_of e) }
 {

@@ -86,6 +86,21 @@ set_more width (suc n) places row all wide =
 pub set_pushed : (width n : ℕ) (places row : List ℕ) → length places ≡ n * width → length row ≡ width → sets_stored width (n + 1) (places ++ row) ≡ sets_stored width n places ++ set_stored row ∷ []
 set_pushed width n places row all wide = rw add-one (set_more width n places row all wide)
 
+-- the sets of two lists side by side
+pub sets_append : (width n m : ℕ) (places others : List ℕ) → length places ≡ n * width → sets_stored width (n + m) (places ++ others) ≡ sets_stored width n places ++ sets_stored width m others
+sets_append width zero m [] others all = ap (λ k. sets_stored width k others) (omega arith)
+sets_append width zero m (p ∷ places) others all = absurd (omega arith)
+sets_append width (suc n) m places others all =
+    let far : suc n * width ≡ width + n * width = omega arith in
+    let long : width ≤ length places = omega (arith, all, far) in
+    let rest : length (drop width places) ≡ n * width = length-drop width places ∙ omega (arith, all, far) in
+    let next : suc n + m ≡ suc (n + m) = omega arith in
+    rw next (
+    ap (λ ps. set_stored ps ∷ sets_stored width (n + m) (drop width (places ++ others))) (take-append-le width places others long)
+    ∙ ap (λ ps. set_stored (take width places) ∷ sets_stored width (n + m) ps) (drop-append-le width places others long)
+    ∙ ap (λ ss. set_stored (take width places) ∷ ss) (sets_append width n m (drop width places) others rest)
+    )
+
 -- what is written behind the first numbers leaves them, and is written among the others
 first_left : (width m : ℕ) (row places : List ℕ) → width ≤ length places → m ≤ length places - width → take width (overwritten (width + m) row places) ≡ take width places
 first_left width m row places long fits =

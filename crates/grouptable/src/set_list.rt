@@ -66,6 +66,18 @@ impl SetList {
         Ok(())
     }
 
+    /// All sets of another list, of as many places, behind these; or `Memory` (30).
+    pub fn append(&mut self, others: &SetList) -> Result<(), Memory>
+        requires width { others.now.width ≡ self.old.width }
+        requires few { length self.old.sets + length others.now.sets ≤ max_groups }
+        ensures { OnOk result (self.new
+            ≡ record { width = self.old.width; sets = self.old.sets ++ others.now.sets }) }
+    {
+        self.places.extend_from_slice(&others.places)?;
+        self.len += others.len;
+        Ok(())
+    }
+
     /// How many sets there are.
     pub fn len(&self) -> usize
         ensures value { result ≡ length self.now.sets }

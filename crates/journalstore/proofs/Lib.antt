@@ -7,3 +7,4 @@ pub mod CheckpointLemmas
 pub mod KeepLemmas
 pub mod LeftLemmas
 pub mod FoldLemmas
+pub mod ClaimLemmas

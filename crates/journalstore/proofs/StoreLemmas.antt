@@ -7,7 +7,7 @@ use Rattle.sqlite.specs.Tree.{Trees}
 use Rattle.sqlite.specs.Effect.{Database}
 use Rattle.sqlite.specs.State.{State, HasCleanDisk, Survives, Executes, CommitsBy, IsUnchanged}
 use Rattle.journalstore.specs.Tables.{IsOfStore, insert_text}
-use Rattle.journalstore.specs.Texts.{Entry, Texts, bare_text, begun_with, with_change, IsAfter, StandsFor}
+use Rattle.journalstore.specs.Texts.{Texts, bare_text, begun_with, with_change, IsAfter, StandsFor}
 use Rattle.journalstore.specs.declared.reading.StoredText.{StoredText}
 use Rattle.journalstore.specs.declared.reading.StoredTexts.{StoredTexts}
 use Rattle.journalstore.specs.Read.{entry_read, texts_read}

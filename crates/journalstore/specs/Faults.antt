@@ -1,12 +1,16 @@
 -- The words of the errors.
-use Rattle.std.specs.Prelude.{◌≢◌, ℕ, List, codes}
+use Rattle.std.specs.Prelude.{◌≢◌, ◌++◌, ℕ, List, codes}
+use Rattle.std.specs.Fmt.{decimal}
 use Rattle.journalstore.specs.declared.error.StoreError.{StoreError}
-use Rattle.journalstore.specs.declared.error.StoreError.TheVariants.{Missing, LogAlone, Taken, NoFolder, NoRight, NoCopy, Moving, Unopened, InUse, Foreign, Mixed, Damaged, Begun, EpochTooLarge, EpochTaken, TextTooLong, Full, Disk, Memory, Shut}
+use Rattle.journalstore.specs.declared.error.StoreError.TheVariants.{Missing, LogAlone, LogLost, Taken, NoFolder, NoRight, NoCopy, Moving, Unopened, InUse, Foreign, Mixed, Damaged, Begun, EpochTooLarge, EpochTaken, TextTooLong, Full, Disk, Memory, Shut}
 
 -- what an error says
 abbrev pub said : StoreError → List ℕ
 said Missing = codes "there is no store at this path"
 said LogAlone = codes "there is a log at this path, and no store with it"
+said (LogLost epoch) =
+    codes "its log is missing: bring it back, or by --without-log " ++ decimal epoch
+    ++ codes " lose what it has behind that epoch"
 said Taken = codes "there is a file at the path of the copy"
 said NoFolder = codes "the folder of the copy is missing"
 said NoRight = codes "there is no right to make the copy in its folder"

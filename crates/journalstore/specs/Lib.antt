@@ -4,3 +4,4 @@ pub mod Read
 pub mod Faults
 pub mod Stores
 pub mod Folded
+pub mod Claims

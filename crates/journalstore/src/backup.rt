@@ -5,9 +5,10 @@
 //! belong together unless the log was begun anew between them, which its header tells, whose salts are then others.
 
 use crate::checkpoint::checkpoint;
+use crate::claim::{NO_CLAIM, close_with};
 use crate::error::{StoreError, of_copy, of_system};
 use crate::facts::{Facts, read_facts};
-use crate::files::{beside, check_there, has_log, length_of};
+use crate::files::{Place, beside, check_log, check_there, has_log, length_of};
 use crate::opening::find;
 use crate::reading::{StoredTexts, read};
 use sqlite::{Alter, Connection, Start, params};
@@ -116,8 +117,8 @@ fn give_life<S: Alter>(
     }
 }
 
-/// Reads the store of these files, gives it another number, if one is told, copies its log into its file, and takes the
-/// log away.
+/// Reads the store of these files, gives it another number, if one is told, copies its log into its file, which then
+/// claims none, and takes the log away.
 fn make_whole<W: Start>(
     rt: &HostRuntime,
     files: (&str, &str),
@@ -127,7 +128,7 @@ fn make_whole<W: Start>(
     let mut conn = find(rt, files.0, start)?;
     let texts = read(rt.alloc(), &mut conn)?;
     give_life(rt.alloc(), &mut conn, &texts, life)?;
-    conn.close()?;
+    close_with(conn, NO_CLAIM)?;
     remove(rt, files.1)?;
     Ok(texts)
 }
@@ -207,16 +208,17 @@ fn check_target(rt: &HostRuntime, to: &str) -> Result<(), StoreError> {
 /// else those of `open`. Then no file of this name is made, but where the folder alone was not synced.
 pub fn copy_store<W: Start>(
     rt: &HostRuntime,
-    path: &str,
+    place: Place<'_>,
     to: &str,
     start: W,
     life: Option<i64>,
 ) -> Result<StoredTexts, StoreError> {
-    check_there(rt, path)?;
+    check_there(rt, place.path)?;
+    check_log(rt, place)?;
     check_target(rt, to)?;
     let (part, log) = make_part(rt, to)?;
     let files = (part.as_str(), log.as_str());
-    let made = match copy_files(rt, path, files) {
+    let made = match copy_files(rt, place.path, files) {
         Ok(()) => make_whole(rt, files, start, life),
         Err(error) => Err(error),
     };

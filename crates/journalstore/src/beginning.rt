@@ -14,14 +14,11 @@ use crate::begun::is_begun;
 use crate::checkpoint::add_map;
 use crate::error::StoreError;
 use crate::facts::Facts;
-use crate::files::check_free;
+use crate::files::{Place, check_free};
 use crate::opening::{FileTexts, connect, open};
 use crate::reading::StoredTexts;
-use crate::shape::{is_blank, is_store};
+use crate::shape::{JOURNAL, is_blank, is_store};
 use sqlite::{Alter, Connection, Error, ErrorCode, Start, Transaction, params};
-
-const JOURNAL: &str =
-    "CREATE TABLE journal (epoch INTEGER PRIMARY KEY, change TEXT NOT NULL) STRICT";
 
 const MAP: &str = "CREATE TABLE map (epoch INTEGER PRIMARY KEY, text TEXT NOT NULL) STRICT";
 
@@ -100,9 +97,9 @@ fn make_file<W: Start>(
 ///
 /// # Errors
 ///
-/// `EpochTooLarge` if the epoch is above 2^63 - 1; `Begun` where there is a store, `LogAlone` where there is a log
-/// whose file is missing, and `Foreign` where there is another database, and then nothing is written; else those of
-/// `open` but `Missing`, and `TextTooLong`.
+/// `EpochTooLarge` if the epoch is above 2^63 - 1; `Begun` where there is a store, `LogLost` where its log is missing,
+/// `LogAlone` where there is a log whose file is missing, and `Foreign` where there is another database, and then
+/// nothing is written; else those of `open` but `Missing`, and `TextTooLong`.
 pub fn begin<V: Start, W: Start>(
     rt: &HostRuntime,
     path: &str,
@@ -121,7 +118,7 @@ pub fn begin<V: Start, W: Start>(
     }
     let (none, start) = starts;
     make_file(rt, path, none, first)?;
-    let (texts, found) = open(rt, path, start)?;
+    let (texts, found) = open(rt, Place::of(path), start)?;
     if !is_begun(&found, first.epoch, first.text) {
         return Err(StoreError::Damaged);
     }

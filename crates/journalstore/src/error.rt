@@ -3,6 +3,7 @@
 ghost use Rattle.journalstore.specs.Faults.{IsOfFile};
 
 use sqlite::{Error, ErrorCode};
+use sqlite_trees::error::StoreError as Failure;
 use std::alloc::{AllocError, AllocFailed};
 use std::{fmt, io};
 use thiserror::Error;
@@ -14,6 +15,8 @@ pub enum StoreError {
     Missing,
     /// There is no file, or an empty one, and beside it a log that is not.
     LogAlone,
+    /// The file claims its log, which may have the changes behind this epoch, and there is none.
+    LogLost(u32),
     /// There is a file already where a copy is to be made.
     Taken,
     /// The folder in which a copy is to be made is missing.
@@ -59,7 +62,13 @@ impl fmt::Display for StoreError {
     ghost output = { λ e. Some (said e) };
 
     fn fmt<W: fmt::Write>(&self, f: &mut fmt::Formatter<W>) -> fmt::Result {
-        f.write_str(match self {
+        let said = match self {
+            StoreError::LogLost(epoch) => {
+                return write!(
+                    f,
+                    "its log is missing: bring it back, or by --without-log {epoch} lose what it has behind that epoch"
+                );
+            }
             StoreError::Missing => "there is no store at this path",
             StoreError::LogAlone => "there is a log at this path, and no store with it",
             StoreError::Taken => "there is a file at the path of the copy",
@@ -82,7 +91,8 @@ impl fmt::Display for StoreError {
             StoreError::Disk => "the disk failed",
             StoreError::Memory => "memory is short",
             StoreError::Shut => "an earlier failure of the disk has shut the store",
-        })
+        };
+        f.write_str(said)
     }
 }
 
@@ -133,6 +143,23 @@ impl From<Error> for StoreError {
         match error {
             Error::SqliteFailure(code) => named(code),
             _ => StoreError::Damaged,
+        }
+    }
+}
+
+impl From<Failure> for StoreError {
+    ghost use Rattle.journalstore.specs.Faults.{IsOfFile};
+
+    ghost from_gives = { λ _ e. IsOfFile e };
+
+    fn from(failure: Failure) -> StoreError {
+        match failure {
+            Failure::OutOfMemory => StoreError::Memory,
+            Failure::Io => StoreError::Disk,
+            Failure::Corrupt => StoreError::Damaged,
+            Failure::Full => StoreError::Full,
+            Failure::Broken => StoreError::Shut,
+            Failure::Unstorable => StoreError::TextTooLong,
         }
     }
 }

@@ -5,6 +5,7 @@
 //! - `facts`: what a store notes beside its texts
 //! - `append`, `checkpoint`: how a change is appended, and how a new first map takes the place of the old one
 //! - `files`, `backup`: the files of a store, and a copy of them as one file
+//! - `claim`: what the file of a store says of its log
 //! - `reading`, `note`: how the texts are read, and what may stand beside one
 //! - `shape`: whether a database has the tables of a store
 //! - `exclusive`: a value that only its owner reaches
@@ -16,6 +17,7 @@ mod backup;
 mod beginning;
 mod begun;
 mod checkpoint;
+mod claim;
 mod error;
 mod exclusive;
 mod facts;
@@ -30,8 +32,10 @@ pub use append::LAST_EPOCH;
 pub use backup::copy_store;
 pub use beginning::{Beginning, begin};
 pub use begun::is_begun;
+pub use claim::claim_log;
 pub use error::StoreError;
 pub use facts::Facts;
+pub use files::Place;
 pub use note::without_note;
 pub use opening::{FileTexts, fold_log, is_missing, open};
 pub use reading::{StoredText, StoredTexts};

@@ -12,10 +12,11 @@ ghost use Rattle.journalstore.specs.Read.{texts_read};
 ghost use Rattle.journalstore.specs.Stores.{IsReady, Holds};
 ghost use Rattle.journalstore.specs.Folded.{IsFoldedFrom};
 
+use crate::claim::{NO_CLAIM, close_with};
 use crate::error::StoreError;
 use crate::exclusive::Exclusive;
 use crate::facts::read_facts;
-use crate::files::check_there;
+use crate::files::{Place, check_log, check_there};
 use crate::reading::{StoredTexts, read};
 use crate::shape::is_store;
 use crate::store::TextStore;
@@ -69,11 +70,12 @@ pub(crate) fn find<W: Start>(
 ///
 /// # Errors
 ///
-/// `Missing` where there is no file, or an empty one, and `LogAlone` where its log is there; `Unopened`, `InUse`,
-/// `Foreign`, `Damaged`, `Full`, `Disk`, `Memory`.
+/// `Missing` where there is no file, or an empty one, and `LogAlone` where its log is there; `LogLost` where its file
+/// claims a log that is missing, and then no file is made; `Unopened`, `InUse`, `Foreign`, `Mixed`, `Damaged`, `Full`,
+/// `Disk`, `Memory`.
 pub fn open<W: Start>(
     rt: &HostRuntime,
-    path: &str,
+    place: Place<'_>,
     start: W,
 ) -> Result<(FileTexts<W>, StoredTexts), StoreError>
     ensures holds { IfOk result (λ r. Holds over_files r.0 (texts_read r.1)) }
@@ -81,16 +83,17 @@ pub fn open<W: Start>(
         → HoldsDatabase (image_at W.Start) db → StandsFor db t → texts_read r.1 ≡ t) }
     ensures named { IfErr result (λ e. e ≢ EpochTooLarge) }
 {
-    check_there(rt, path)?;
-    let mut conn = find(rt, path, start)?;
+    check_there(rt, place.path)?;
+    check_log(rt, place)?;
+    let mut conn = find(rt, place.path, start)?;
     let texts = read(rt.alloc(), &mut conn)?;
     let facts = read_facts(&mut conn, &texts)?;
     let conn = Exclusive::new(conn);
     Ok((TextStore { conn, facts }, texts))
 }
 
-/// Copies the log of a store into its file, which then is the store by itself: the two files, which hold the database
-/// that they held, the file alone too, also after a crash.
+/// Copies the log of a store into its file, which then is the store by itself, and claims no log: the two files, which
+/// hold the database that they held, the file alone too, also after a crash.
 ///
 /// # Errors
 ///
@@ -103,14 +106,10 @@ pub fn fold_log<W: Start>(
     ensures folded { IfOk result (IsFoldedFrom ⟦<FileFrom<W> as Disk>⟧ (image_at W.Start)) }
 {
     check_there(rt, path)?;
+    check_log(rt, Place::of(path))?;
     let conn = find(rt, path, start)?;
-    match conn.close_files() {
-        Ok(files) => Ok(files),
-        Err((error, store)) => {
-            drop(store.close());
-            Err(error.into())
-        }
-    }
+    let files = close_with(conn, NO_CLAIM)?;
+    Ok(files)
 }
 
 /// Whether there is no store at a path, nor anything of one.

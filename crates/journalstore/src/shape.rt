@@ -9,6 +9,10 @@ use sqlite_schema::schema::{Column, Kind, Schema, Stamps, Table};
 use sqlite_value::keys::Collation;
 use sqlite_value::value::Value;
 
+/// The table of the changes, as it stands in a store's first page.
+pub(crate) const JOURNAL: &str =
+    "CREATE TABLE journal (epoch INTEGER PRIMARY KEY, change TEXT NOT NULL) STRICT";
+
 /// Whether a column is a plain one of a STRICT table.
 fn is_plain(column: &Column) -> bool
     ensures { result ≡ true → column.now ≡ column_of column.now.name column.now.kind column.now.not_null }

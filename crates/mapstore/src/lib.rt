@@ -24,6 +24,6 @@ mod witness;
 
 pub use error::OpenError;
 pub use keep::{KEPT, Keep};
-pub use opening::{FileMaps, adopt, begin, copy_store, open};
+pub use opening::{FileMaps, adopt, begin, claim_log, copy_store, open};
 pub use store::MapStore;
 pub use witness::Witness;

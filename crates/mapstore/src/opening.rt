@@ -3,9 +3,10 @@
 ghost use Rattle.std.specs.Prelude.{◌≡◌, ◌<◌, IfOk, IfErr};
 ghost use Rattle.sqlite.specs.State.{HasCleanDisk};
 ghost use Rattle.sqlite.specs.Held.{state};
-ghost use Rattle.sqlite.specs.Files.{over_files};
+ghost use Rattle.sqlite.specs.Files.{file_state, over_files};
 ghost use Rattle.sqlite.specs.WalFiles.{image_at};
 ghost use Rattle.mapparts.specs.Limits.{max_first_epoch};
+ghost use Rattle.epochlog.specs.Journals.{Journal};
 ghost use Rattle.journalstore.specs.Texts.{begun_with};
 ghost use Rattle.journalstore.specs.Read.{texts_read};
 ghost use Rattle.journalstore.specs.Stores.{Holds};
@@ -23,7 +24,7 @@ use crate::noted::Noted;
 use crate::store::MapStore;
 use crate::trim::trim;
 use crate::witness::Witness;
-use journalstore::{Beginning, Facts, StoredTexts, TextStore};
+use journalstore::{Beginning, Facts, Place, StoredTexts, TextStore};
 use mapparts::limits::MAX_FIRST_EPOCH;
 use osdmap::OsdMap;
 use sqlite::{Alter, FileFrom, FileStore, Start};
@@ -134,12 +135,12 @@ pub fn begin<V: Start, W: Start>(
 ///
 /// # Errors
 ///
-/// `Store` with what [`journalstore::open`] refuses, `Missing` where there is no file, or with what a checkpoint does;
-/// `NoProfile` with the first epoch whose text begins with none; `Journal` where the texts stand for no map;
-/// `LateEpoch` if the map's epoch is above 2,147,483,648.
+/// `Store` with what [`journalstore::open`] refuses, `Missing` where there is no file and `LogLost` where its log is
+/// missing, or with what a checkpoint does; `NoProfile` with the first epoch whose text begins with none; `Journal`
+/// where the texts stand for no map; `LateEpoch` if the map's epoch is above 2,147,483,648.
 pub fn open<W: Start>(
     rt: &HostRuntime,
-    path: &str,
+    place: Place<'_>,
     start: W,
     keep: Keep,
     witness: Witness,
@@ -147,8 +148,40 @@ pub fn open<W: Start>(
     ensures holds { IfOk result (λ r. HoldsJournal over_files r.0 (begun r.1.map)) }
     ensures found { IfOk result (λ r. IsFoundIn over_files (image_at W.Start) r.0 r.1.map) }
 {
-    let (texts, found) = journalstore::open(rt, path, start)?;
+    let (texts, found) = journalstore::open(rt, place, start)?;
     adopt(rt.alloc(), texts, found, keep, witness)
+}
+
+/// Has the file of an open store claim its log, as [`journalstore::claim_log`] says, from its last epoch on: the store,
+/// which holds the journal that it held.
+///
+/// # Errors
+///
+/// `Store` with what [`journalstore::claim_log`] refuses.
+pub fn claim_log<W: Start>(store: FileMaps<W>) -> Result<FileMaps<W>, OpenError>
+    ensures holds { IfOk result (λ s. (j : Journal) → HoldsJournal over_files store j → HoldsJournal over_files s j) }
+    ensures clean { IfOk result (λ s. HasCleanDisk (file_state s.texts.conn)
+        → HasCleanDisk (file_state store.texts.conn)) }
+{
+    let MapStore {
+        texts,
+        past,
+        found,
+        first,
+        last,
+        alloc,
+        witness,
+    } = store;
+    let texts = journalstore::claim_log(alloc, texts, last)?;
+    Ok(MapStore {
+        texts,
+        past,
+        found,
+        first,
+        last,
+        alloc,
+        witness,
+    })
 }
 
 /// Makes one file of the files of a store, which another program may have open, as [`journalstore::copy_store`] says:
@@ -160,11 +193,11 @@ pub fn open<W: Start>(
 /// `Journal` as of [`open`], where the file is a copy of a store that stands for no map.
 pub fn copy_store<W: Start>(
     rt: &HostRuntime,
-    path: &str,
+    place: Place<'_>,
     to: &str,
     start: W,
     life: Option<i64>,
 ) -> Result<OsdMap, OpenError> {
-    let found = journalstore::copy_store(rt, path, to, start, life)?;
+    let found = journalstore::copy_store(rt, place, to, start, life)?;
     find_map(rt.alloc(), &found)
 }

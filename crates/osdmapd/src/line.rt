@@ -4,9 +4,7 @@ ghost use Rattle.std.specs.Prelude.{◌≡◌, ◌≤◌, IfOk, map, string_byte
 ghost use Rattle.clap.specs.Matches.{found_of};
 ghost use Rattle.clap.specs.Simple.{app_of};
 ghost use Rattle.clap.specs.Walk.{rows_of};
-ghost use Rattle.epochlog.specs.Epochs.{max_capacity};
-ghost use Rattle.server.specs.Serving.{max_scripts};
-ghost use Rattle.cli.specs.Arguments.{ArePaired, Chooses, IsReadBy};
+ghost use Rattle.cli.specs.Arguments.{Chooses, IsReadBy};
 ghost use Rattle.osdmapd.specs.CommandLine.{map_rule, script_rule, program, program_with_options, app};
 ghost use Rattle.osdmapd.specs.CommandLine.{AreFound, ReadsLine, ReadsUsual};
 
@@ -78,11 +76,7 @@ fn command<'a>(alloc: Global) -> Result<Command<'a>, AllocError>
 
 /// The options of words that the parser took. A value that it had to find and did not is told as out of memory.
 fn options_in(alloc: Global, matches: &ArgMatches<'_>) -> Result<Options, LineError>
-    ensures least { IfOk result (λ o. 1 ≤ o.sessions.journal) }
-    ensures most { IfOk result (λ o. o.sessions.journal ≤ max_capacity) }
     ensures some { IfOk result (λ o. 1 ≤ vec_len o.sessions.scripts) }
-    ensures few { IfOk result (λ o. vec_len o.sessions.scripts ≤ max_scripts) }
-    ensures paired { IfOk result (λ o. ArePaired (vec_len o.sessions.scripts) (vec_len o.sessions.answers)) }
     ensures taken { Chooses AreFound (rows_of (found_of matches.now)) result }
 {
     let map = path_in(matches, "MAP").ok_or(LineError::Memory)?;
@@ -104,11 +98,7 @@ fn options_in(alloc: Global, matches: &ArgMatches<'_>) -> Result<Options, LineEr
 /// and the scripts begin with no hyphen, they are the map and the scripts, there is no file of answers, the journal is
 /// N or 1,024, and the profile is stock with `--stock` and else plain.
 pub fn options(alloc: Global, words: &[String]) -> Result<Options, LineError>
-    ensures least { IfOk result (λ o. 1 ≤ o.sessions.journal) }
-    ensures most { IfOk result (λ o. o.sessions.journal ≤ max_capacity) }
     ensures some { IfOk result (λ o. 1 ≤ vec_len o.sessions.scripts) }
-    ensures few { IfOk result (λ o. vec_len o.sessions.scripts ≤ max_scripts) }
-    ensures paired { IfOk result (λ o. ArePaired (vec_len o.sessions.scripts) (vec_len o.sessions.answers)) }
     ensures read { ReadsLine (map string_bytes words.now) result }
     ensures usual { ReadsUsual (map string_bytes words.now) result }
 {

@@ -6,9 +6,6 @@
 
 ghost use Rattle.std.specs.Prelude.{◌≡◌, ◌≤◌, IfErr, vec_len};
 ghost use Rattle.std.specs.Process.{exit_status};
-ghost use Rattle.epochlog.specs.Epochs.{max_capacity};
-ghost use Rattle.server.specs.Serving.{max_scripts};
-ghost use Rattle.cli.specs.Arguments.{ArePaired};
 ghost use Rattle.cli.specs.Endings.{status_of};
 
 mod choices;
@@ -29,11 +26,7 @@ fn work<'a, R: Files + AllocGlobal + Print + Eprint + Threads + Wait + Sync>(
     system: &System<'_, R>,
     options: &'a Options,
 ) -> Result<(), Ending<'a>>
-    requires least { 1 ≤ options.now.sessions.journal }
-    requires most { options.now.sessions.journal ≤ max_capacity }
-    requires some { 1 ≤ vec_len options.now.sessions.scripts }
-    requires few { vec_len options.now.sessions.scripts ≤ max_scripts }
-    requires paired { ArePaired (vec_len options.now.sessions.scripts) (vec_len options.now.sessions.answers) }
+    requires { 1 ≤ vec_len options.now.sessions.scripts }
     ensures { IfErr result (λ e. 2 ≤ status_of e) }
 {
     let map = read(system.rt, options.map.as_str())?;

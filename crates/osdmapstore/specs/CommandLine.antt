@@ -44,6 +44,15 @@ keep_rule = record (new_rule (codes "keep")) {
   parser = Some (Signed (pos 0) (pos most_kept));
 }
 
+-- `--without-log EPOCH`
+abbrev pub without_log_rule : Rule
+without_log_rule = record (new_rule (codes "without-log")) {
+  long = Some (codes "without-log");
+  action = Some Set;
+  value_names = 1;
+  parser = Some (Signed (pos 1) (pos 4294967295));
+}
+
 -- STORE, one word that must be there
 abbrev pub store_rule : Rule
 store_rule = record (new_rule (codes "STORE")) { action = Some Set; required = true }
@@ -79,22 +88,22 @@ abbrev pub store_program_with_runs : App
 store_program_with_runs =
     with_rule (with_rule store_program_with_changes (flag_rule (codes "end-when-full"))) (flag_rule (codes "life"))
 
--- with all its options: `--backup FILE` and `--restore` too
+-- with all its options: `--backup FILE`, `--restore` and `--without-log EPOCH` too
 abbrev pub store_program_with_options : App
 store_program_with_options =
-    with_rule (with_rule store_program_with_runs (word_rule (codes "backup"))) (flag_rule (codes "restore"))
+    with_rule (with_rule (with_rule store_program_with_runs (word_rule (codes "backup"))) (flag_rule (codes "restore")))
+    without_log_rule
 
 -- `osdmapstore [--journal N] [--stock] [--to ANSWERS].. [--begin MAP] [--open-or-begin MAP] [--keep N] [--wary]
--- [--by WORD] [--end-when-full] [--life] [--backup FILE] [--restore] STORE [SCRIPT..]`
+-- [--by WORD] [--end-when-full] [--life] [--backup FILE] [--restore] [--without-log EPOCH] STORE [SCRIPT..]`
 abbrev pub store_app : App
 store_app = with_rule (with_rule store_program_with_options store_rule) any_scripts_rule
 
 -- ---- the options
 
--- how many changes an open is told to leave; or no number of 32 bits was found
-abbrev pub IsKeepIn : List Row → Option ℕ → Type 0
-IsKeepIn rows keep =
-    MatchOption keep ((n : ℕ) → n < 2 ^ 32 → IsNumberOf (codes "keep") rows n → ⊥) (IsNumberOf (codes "keep") rows)
+-- the number of an option, as how many changes an open is told to leave; or no number of 32 bits was found
+abbrev pub IsNumberIn : Text → List Row → Option ℕ → Type 0
+IsNumberIn id rows number = MatchOption number ((n : ℕ) → n < 2 ^ 32 → IsNumberOf id rows n → ⊥) (IsNumberOf id rows)
 
 -- what is found for an option without a value where it is not given, and where it is
 abbrev pub given_word : Bool → Text
@@ -106,17 +115,19 @@ abbrev pub IsGivenIn : Text → List Row → Bool → Type 0
 IsGivenIn id rows given = (asked : Bool) → one_of id rows ≡ Some (given_word asked) → given ≡ asked
 
 -- the options are what was found for the maps to begin with, the changes that are kept, the syncs of a change, the word
--- beside it, the end at a full journal, the number of the life, the copy, the store and the sessions
+-- beside it, the end at a full journal, the number of the life, the copy, the epoch of an open without a log, the store
+-- and the sessions
 pub record AreStoreFound (rows : List Row) (o : Options) : Type 0 where
   pub begin_found : first_of (codes "begin") rows ≡ option_map string_bytes o.begin
   pub open_or_begin_found : first_of (codes "open-or-begin") rows ≡ option_map string_bytes o.open_or_begin
-  pub keep_found : IsKeepIn rows o.keep
+  pub keep_found : IsNumberIn (codes "keep") rows o.keep
   pub wary_found : IsGivenIn (codes "wary") rows o.wary
   pub by_found : first_of (codes "by") rows ≡ option_map string_bytes o.by
   pub end_found : IsGivenIn (codes "end-when-full") rows o.end_when_full
   pub life_found : IsGivenIn (codes "life") rows o.life
   pub backup_found : first_of (codes "backup") rows ≡ option_map string_bytes o.backup
   pub restore_found : IsGivenIn (codes "restore") rows o.restore
+  pub without_log_found : IsNumberIn (codes "without-log") rows o.without_log
   pub store_found : first_of (codes "STORE") rows ≡ Some (string_bytes o.store)
   pub sessions_found : AreFoundSessions rows o.sessions
 

@@ -22,6 +22,9 @@ pub struct Options {
     pub backup: Option<String>,
     /// Whether the copy is to go on by itself, as a store of another number.
     pub restore: bool,
+    /// The epoch behind which changes may be lost with the store's log, where it is to be opened without a log that is
+    /// missing.
+    pub without_log: Option<u32>,
     /// The path of the store.
     pub store: String,
     /// How its sessions are to be run.

@@ -1,19 +1,16 @@
 //! The command line.
 
-ghost use Rattle.std.specs.Prelude.{◌≡◌, ◌≤◌, ◌<◌, ◌^◌, ℕ, IfOk, MatchOption};
-ghost use Rattle.std.specs.Prelude.{codes, map, option_map, string_bytes, vec_len};
+ghost use Rattle.std.specs.Prelude.{◌≡◌, IfOk, map, option_map, string_bytes};
 ghost use Rattle.clap.specs.Matches.{found_of};
 ghost use Rattle.clap.specs.Simple.{app_of};
 ghost use Rattle.clap.specs.Walk.{first_of, rows_of};
-ghost use Rattle.epochlog.specs.Epochs.{max_capacity};
-ghost use Rattle.server.specs.Serving.{max_scripts};
-ghost use Rattle.cli.specs.Arguments.{ArePaired, Chooses, IsNumberOf, IsReadBy};
+ghost use Rattle.cli.specs.Arguments.{Chooses, IsReadBy};
 ghost use Rattle.osdmapstore.specs.CommandLine.{flag_rule, word_rule, many_rule, keep_rule, store_rule};
-ghost use Rattle.osdmapstore.specs.CommandLine.{any_scripts_rule, store_program, store_app};
+ghost use Rattle.osdmapstore.specs.CommandLine.{without_log_rule, any_scripts_rule, store_program, store_app};
 ghost use Rattle.osdmapstore.specs.CommandLine.{store_program_of_sessions, store_program_with_maps};
 ghost use Rattle.osdmapstore.specs.CommandLine.{store_program_with_changes, store_program_with_runs};
 ghost use Rattle.osdmapstore.specs.CommandLine.{store_program_with_options};
-ghost use Rattle.osdmapstore.specs.CommandLine.{AreStoreFound, IsGivenIn, ReadsStoreLine};
+ghost use Rattle.osdmapstore.specs.CommandLine.{AreStoreFound, IsGivenIn, IsNumberIn, ReadsStoreLine};
 
 use crate::choices::Options;
 use clap::{Arg, ArgAction, ArgMatches, Command, value_parser};
@@ -53,6 +50,10 @@ const LIFE: &str = "Tells the number of the store's life behind its epoch, if it
 
 const BACKUP: &str =
     "Only makes a copy of the store in this new file, also while a program has it open, and tells its epoch";
+
+const WITHOUT_LOG: &str =
+    "Opens a store whose log is missing by its file alone, where a start that was refused for that has told this epoch: \
+changes behind it that the log alone had are lost";
 
 const RESTORE: &str =
     "With --backup: the copy is to go on by itself, as a store with another number";
@@ -104,6 +105,18 @@ fn keep_option<'a>(alloc: Global) -> Arg<'a>
         )
         .action(ArgAction::Set)
         .value_parser(value_parser!(u32).range(0..=MOST_KEPT))
+}
+
+/// `--without-log EPOCH`.
+fn without_log_option<'a>(alloc: Global) -> Arg<'a>
+    ensures { IsReadBy without_log_rule result }
+{
+    Arg::new(alloc, "without-log")
+        .long("without-log")
+        .value_name("EPOCH")
+        .help(WITHOUT_LOG)
+        .action(ArgAction::Set)
+        .value_parser(value_parser!(u32).range(1..=i64::from(u32::MAX)))
 }
 
 /// STORE.
@@ -182,7 +195,8 @@ fn program_with_options<'a>(alloc: Global) -> Result<Command<'a>, AllocError>
 {
     program_with_runs(alloc)?
         .arg(word_option(alloc, "backup", "FILE", BACKUP))?
-        .arg(flag(alloc, "restore", RESTORE))
+        .arg(flag(alloc, "restore", RESTORE))?
+        .arg(without_log_option(alloc))
 }
 
 /// The command line that the program takes.
@@ -208,13 +222,11 @@ fn copied_word(
     }
 }
 
-/// The number given for the changes that are kept.
-fn keep_in(matches: &ArgMatches<'_>) -> Option<u32>
-    ensures { MatchOption result
-        ((n : ℕ) → n < 2 ^ 32 → IsNumberOf (codes "keep") (rows_of (found_of matches.now)) n → ⊥)
-        (IsNumberOf (codes "keep") (rows_of (found_of matches.now))) }
+/// The number given for an option, where there is one.
+fn number_in(matches: &ArgMatches<'_>, id: &str) -> Option<u32>
+    ensures { IsNumberIn id.now (rows_of (found_of matches.now)) result }
 {
-    matches.get_one("keep")
+    matches.get_one(id)
 }
 
 /// Whether an option without a value was given.
@@ -226,43 +238,35 @@ fn is_given(matches: &ArgMatches<'_>, id: &str) -> bool
 
 /// The options of words that the parser took. A value that it had to find and did not is told as out of memory.
 fn options_in(alloc: Global, matches: &ArgMatches<'_>) -> Result<Options, LineError>
-    ensures least { IfOk result (λ o. 1 ≤ o.sessions.journal) }
-    ensures most { IfOk result (λ o. o.sessions.journal ≤ max_capacity) }
-    ensures few { IfOk result (λ o. vec_len o.sessions.scripts ≤ max_scripts) }
-    ensures paired { IfOk result (λ o. ArePaired (vec_len o.sessions.scripts) (vec_len o.sessions.answers)) }
-    ensures taken { Chooses AreStoreFound (rows_of (found_of matches.now)) result }
+    ensures { Chooses AreStoreFound (rows_of (found_of matches.now)) result }
 {
     let store = path_in(matches, "STORE").ok_or(LineError::Memory)?;
     let sessions = session_options(alloc, matches)?;
     Ok(Options {
         begin: copied_word(alloc, matches, "begin")?,
         open_or_begin: copied_word(alloc, matches, "open-or-begin")?,
-        keep: keep_in(matches),
+        keep: number_in(matches, "keep"),
         wary: is_given(matches, "wary"),
         by: copied_word(alloc, matches, "by")?,
         end_when_full: is_given(matches, "end-when-full"),
         life: is_given(matches, "life"),
         backup: copied_word(alloc, matches, "backup")?,
         restore: is_given(matches, "restore"),
+        without_log: number_in(matches, "without-log"),
         store: String::from_str(alloc, store)?,
         sessions,
     })
 }
 
 /// What a command line asks for, the program's name first: `[--journal N] [--stock] [--to ANSWERS].. [--begin MAP]
-/// [--open-or-begin MAP] [--keep N] [--wary] [--by WORD] [--end-when-full] [--life] [--backup FILE] [--restore] STORE
-/// [SCRIPT..]`,
-/// the journal's N from 1 to 65,536, and 65,536 where it is not given, the other from 0 to 1,000,000, at most 64
-/// scripts, and as many files of answers or none. The options are those that the parser finds in the words, exactly
-/// where it has nothing against them and the numbers are so; `Help` where help was asked for, `Usage` for what else
-/// the parser has against the words, `TooMany` where there are more scripts, `Unpaired` where there are files of
-/// answers but another number of them, else `Memory`.
+/// [--open-or-begin MAP] [--keep N] [--wary] [--by WORD] [--end-when-full] [--life] [--backup FILE] [--restore]
+/// [--without-log EPOCH] STORE [SCRIPT..]`, the journal's N from 1 to 65,536, and 65,536 where it is not given, the
+/// other from 0 to 1,000,000, the epoch from 1 to 4,294,967,295, at most 64 scripts, and as many files of answers or
+/// none. The options are those that the parser finds in the words, exactly where it has nothing against them and the
+/// numbers are so; `Help` where help was asked for, `Usage` for what else the parser has against the words, `TooMany`
+/// where there are more scripts, `Unpaired` where there are files of answers but another number of them, else `Memory`.
 pub fn options(alloc: Global, words: &[String]) -> Result<Options, LineError>
-    ensures least { IfOk result (λ o. 1 ≤ o.sessions.journal) }
-    ensures most { IfOk result (λ o. o.sessions.journal ≤ max_capacity) }
-    ensures few { IfOk result (λ o. vec_len o.sessions.scripts ≤ max_scripts) }
-    ensures paired { IfOk result (λ o. ArePaired (vec_len o.sessions.scripts) (vec_len o.sessions.answers)) }
-    ensures read { ReadsStoreLine (map string_bytes words.now) result }
+    ensures { ReadsStoreLine (map string_bytes words.now) result }
 {
     match command(alloc)?.try_get_matches_from(words) {
         Ok(matches) => options_in(alloc, &matches),

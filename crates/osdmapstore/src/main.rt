@@ -1,7 +1,7 @@
 //! Answers scripts of commands over the map of a cluster that a file keeps, so that no change that was answered is lost
 //! in a crash: `osdmapstore [--journal N] [--stock] [--to ANSWERS].. [--begin MAP] [--open-or-begin MAP] [--keep N]
-//! [--wary] [--by WORD] [--end-when-full] [--life] [--backup FILE] [--restore] STORE [SCRIPT..]`, where `-` for a script
-//! is standard input, and for a file of answers standard output.
+//! [--wary] [--by WORD] [--end-when-full] [--life] [--backup FILE] [--restore] [--without-log EPOCH] STORE [SCRIPT..]`,
+//! where `-` for a script is standard input, and for a file of answers standard output.
 //!
 //! - `line`, `choices`: what a command line asks for
 //! - `word`: which words may sign a change
@@ -10,14 +10,12 @@
 
 ghost use Rattle.std.specs.Prelude.{◌≡◌, ◌≤◌, [], IfErr, IfOk, length, vec_len};
 ghost use Rattle.std.specs.Process.{exit_status};
-ghost use Rattle.epochlog.specs.Epochs.{max_capacity};
 ghost use Rattle.mapstore.specs.JournalTexts.{begun};
 ghost use Rattle.mapstore.specs.Openings.{IsFoundIn};
 ghost use Rattle.mapstore.specs.Stores.{HoldsJournal};
 ghost use Rattle.sqlite.specs.Files.{over_files};
 ghost use Rattle.sqlite.specs.WalFiles.{image_at};
 ghost use Rattle.server.specs.Serving.{max_scripts};
-ghost use Rattle.cli.specs.Arguments.{ArePaired};
 ghost use Rattle.cli.specs.Endings.{status_of};
 ghost use Rattle.osdmapstore.specs.Endings.{store_run_status, store_status_of, ChecksOptions};
 
@@ -29,7 +27,7 @@ mod word;
 use choices::Options;
 use cli::{check_streams, parts_of, put_served, read, tell_line};
 use ending::Ending;
-use journalstore::{Facts, StoreError};
+use journalstore::{Facts, Place, StoreError};
 use mapjson::read_map;
 use mapparts::Profile;
 use mapstore::{FileMaps, KEPT, Keep, MapStore, OpenError, Witness};
@@ -117,6 +115,14 @@ fn begin<'a, R: Files + AllocGlobal, V: Start, W: Start>(
     }
 }
 
+/// Where the store lies, and whether it may have lost its log.
+fn place_in(options: &Options) -> Place<'_> {
+    Place {
+        path: options.store.as_str(),
+        without_log: options.without_log,
+    }
+}
+
 /// How many changes an open leaves: as many as are said, else all of them where no session is to run.
 fn kept_by(options: &Options) -> Keep {
     match options.keep {
@@ -139,7 +145,7 @@ fn open<'a, R, W: Start>(
 {
     match mapstore::open(
         system.host,
-        options.store.as_str(),
+        place_in(options),
         start,
         kept_by(options),
         witness,
@@ -181,6 +187,39 @@ fn begin_or_open<'a, R: Files + AllocGlobal, V: Start, W: Start>(
     }
 }
 
+/// Has the file of an open store claim its log, behind the epoch of its map: the store, and its map.
+fn claim_log<'a, W: Start>(first: First<FileMaps<W>>) -> Result<First<FileMaps<W>>, Ending<'a>>
+    requires holds { HoldsJournal over_files first.store (begun first.map.map) }
+    requires found { IsFoundIn over_files (image_at W.Start) first.store first.map.map }
+    ensures holds { IfOk result (λ first. HoldsJournal over_files first.store (begun first.map.map)) }
+    ensures found { IfOk result (λ first. IsFoundIn over_files (image_at W.Start) first.store first.map.map) }
+    ensures status { IfErr result (λ e. 2 ≤ store_status_of e) }
+{
+    let First { map, store } = first;
+    match mapstore::claim_log(store) {
+        Ok(store) => Ok(First { map, store }),
+        Err(error) => Err(Ending::of_open(error)),
+    }
+}
+
+/// Makes the store or opens it; where sessions are to run, its file claims its log from then on.
+fn start_store<'a, R: Files + AllocGlobal, V: Start, W: Start>(
+    system: &System<'_, R>,
+    options: &'a Options,
+    starts: (V, W),
+    witness: Witness,
+) -> Result<First<FileMaps<W>>, Ending<'a>>
+    ensures holds { IfOk result (λ first. HoldsJournal over_files first.store (begun first.map.map)) }
+    ensures found { IfOk result (λ first. IsFoundIn over_files (image_at W.Start) first.store first.map.map) }
+    ensures status { IfErr result (λ e. 2 ≤ store_status_of e) }
+{
+    let first = begin_or_open(system, options, starts, witness)?;
+    if options.sessions.scripts.is_empty() {
+        return Ok(first);
+    }
+    claim_log(first)
+}
+
 /// Copies the log of the store into its file, which is then the store by itself, unless another program has opened it.
 fn end_store<'a, R, W: Start>(
     system: &System<'_, R>,
@@ -216,7 +255,7 @@ fn back_up<'a, R: Print, W: Start>(
     ensures { IfErr result (λ e. 2 ≤ store_status_of e) }
 {
     let life = life_by(system.host, options)?;
-    match mapstore::copy_store(system.host, options.store.as_str(), to, start, life) {
+    match mapstore::copy_store(system.host, place_in(options), to, start, life) {
         Ok(map) => {
             tell_epoch(system.rt, &map)?;
             Ok(())
@@ -240,8 +279,6 @@ fn serve_parts<'a, R: AllocGlobal + Print + Eprint + Threads + Wait + Sync, S: A
     first: First<MapStore<S>>,
     parts: &[Part],
 ) -> Result<(), cli::Ending<'a>>
-    requires least { 1 ≤ terms.journal }
-    requires most { terms.journal ≤ max_capacity }
     requires some { 1 ≤ length parts.now }
     requires few { length parts.now ≤ max_scripts }
     requires holds { HoldsJournal S.Store first.store (begun first.map.map) }
@@ -276,8 +313,6 @@ fn serve_store<'a, R: AllocGlobal + Print + Eprint + Threads + Wait + Sync, S: A
     first: First<MapStore<S>>,
     parts: &[Part],
 ) -> Result<(), cli::Ending<'a>>
-    requires least { 1 ≤ options.now.sessions.journal }
-    requires most { options.now.sessions.journal ≤ max_capacity }
     requires few { length parts.now ≤ max_scripts }
     requires holds { HoldsJournal S.Store first.store (begun first.map.map) }
     ensures { IfErr result (λ e. 2 ≤ status_of e) }
@@ -324,7 +359,6 @@ fn parts_by<'a, R: Files + AllocGlobal>(
     options: &'a Options,
     witness: &Witness,
 ) -> Result<Vec<Part>, cli::Ending<'a>>
-    requires { ArePaired (vec_len options.now.sessions.scripts) (vec_len options.now.sessions.answers) }
     ensures count { IfOk result (λ parts. vec_len parts ≡ vec_len options.now.sessions.scripts) }
     ensures status { IfErr result (λ e. 2 ≤ status_of e) }
 {
@@ -359,10 +393,6 @@ fn work<
     W: Start + Send,
     E: Start,
 >(system: &System<'_, R>, options: &'a Options, starts: (V, W, E)) -> Result<(), Ending<'a>>
-    requires least { 1 ≤ options.now.sessions.journal }
-    requires most { options.now.sessions.journal ≤ max_capacity }
-    requires few { vec_len options.now.sessions.scripts ≤ max_scripts }
-    requires paired { ArePaired (vec_len options.now.sessions.scripts) (vec_len options.now.sessions.answers) }
     ensures { IfErr result (λ e. 2 ≤ store_status_of e) }
 {
     let (none, start, left) = starts;
@@ -374,7 +404,7 @@ fn work<
         return Err(Ending::Run(cli::Ending::Memory));
     };
     let parts = parts_by(system, options, &witness)?;
-    let first = begin_or_open(system, options, (none, start), other)?;
+    let first = start_store(system, options, (none, start), other)?;
     let done = serve_store(system, options, first, &parts);
     end_of(&witness, done)?;
     end_store(system, path, left)?;
@@ -386,10 +416,6 @@ fn work_on<'a, R: Files + AllocGlobal + Print + Eprint + Threads + Wait + Sync>(
     system: &System<'_, R>,
     options: &'a Options,
 ) -> Result<(), Ending<'a>>
-    requires least { 1 ≤ options.now.sessions.journal }
-    requires most { options.now.sessions.journal ≤ max_capacity }
-    requires few { vec_len options.now.sessions.scripts ≤ max_scripts }
-    requires paired { ArePaired (vec_len options.now.sessions.scripts) (vec_len options.now.sessions.answers) }
     ensures { IfErr result (λ e. 2 ≤ store_status_of e) }
 {
     if options.wary {

@@ -10,7 +10,8 @@ pub mod States
 pub mod ChangedSets
 pub mod PoolPatches
 pub mod PatchedInPlace
-pub mod Parts
+pub mod Parting
 pub mod Sharing
 pub mod Stretching
 pub mod Naming
+pub mod MadeAnew

@@ -15,7 +15,7 @@ use Rattle.pgtable.specs.Patches.{with_sets}
 use Rattle.pgtable.specs.Rooms.{start_of, len_of}
 use Rattle.pgtable.specs.Shares.{share_of, IsShare}
 use Rattle.pgtable.specs.Tables.{RunsMore}
-use Rattle.pgtable.proofs.Parts.{starts_rise}
+use Rattle.pgtable.proofs.Parting.{starts_rise}
 
 -- what stands before a place and from it up to another stands before that
 pub before_and_from : {X : Type 0} (a b : ℕ) (xs : List X) → a ≤ b → take a xs ++ between a b xs ≡ take b xs

@@ -1,5 +1,6 @@
 -- The map after a change, and the patch to its table, as the code that makes patches goes by them.
-use Rattle.std.specs.Prelude.{◌≡◌, ℕ, Bool, List, Some}
+use Rattle.std.specs.Prelude.{◌≡◌, ℕ, Bool, List, Some, reverse}
+use Rattle.std.specs.List.{filter}
 use Rattle.crush.specs.Run.{Ran}
 use Rattle.maptypes.specs.Pools.{PoolFacts}
 use Rattle.osdmap.specs.Evals.{is_touched, evals_of}
@@ -21,6 +22,10 @@ HasPool u p = pool_at (map_after u).pools p.id ≡ Some p
 -- whether a change touches a pool as a whole
 abbrev pub is_touched_by : Update → PoolFacts → Bool
 is_touched_by u p = is_touched (map_after u) u.change.now p
+
+-- the pools of that map that a change touches as a whole, the last one first
+abbrev pub touched_pools : Update → List PoolFacts
+touched_pools u = reverse (filter (is_touched_by u) (map_after u).pools)
 
 -- how many groups of a pool a change evaluates, and how many in all
 abbrev pub pool_evals : Update → PoolFacts → ℕ

@@ -3,7 +3,6 @@ use Rattle.std.specs.Prelude.{◌≡◌, ℕ, ◌+◌, ◌-◌, ◌*◌, ◌^◌
 use Rattle.std.specs.List.{sum_by, range_with_len}
 use Rattle.crush.specs.Run.{Ran}
 use Rattle.grouptable.specs.Sets.{GroupSets}
-use Rattle.maptypes.specs.Sets.{Places}
 use Rattle.maptypes.specs.Pools.{PoolFacts}
 use Rattle.osdmap.specs.Maps.{ClusterMap}
 use Rattle.osdmap.specs.Placement.{mapped_set}
@@ -30,8 +29,11 @@ abbrev pub len_of : ℕ → ℕ → ℕ → ℕ
 len_of room size count = start_of (room + 1) size count - start_of room size count
 
 -- the mapped sets of the groups of the part of a room
-abbrev pub part_of : ClusterMap → PoolFacts → ℕ → ℕ → List Places
-part_of m p room size = map (mapped_set m p) (range_with_len (start_of room size p.pg_num) (len_of room size p.pg_num))
+abbrev pub part_of : ClusterMap → PoolFacts → ℕ → ℕ → GroupSets
+part_of m p room size = record {
+  width = p.size;
+  sets = map (mapped_set m p) (range_with_len (start_of room size p.pg_num) (len_of room size p.pg_num));
+}
 
 -- the mapped sets of the groups of the parts of so many rooms, side by side
 abbrev pub parts_before : ClusterMap → PoolFacts → ℕ → ℕ → GroupSets
@@ -39,6 +41,6 @@ parts_before m p rooms size =
     record { width = p.size; sets = map (mapped_set m p) (range_with_len 0 (start_of rooms size p.pg_num)) }
 
 -- what a room makes of its part: the mapped sets of its groups, by a run for each
-pub record IsPart (m : ClusterMap) (p : PoolFacts) (room size : ℕ) (old new : Ran) (made : List Places) : Type 0 where
+pub record IsPart (m : ClusterMap) (p : PoolFacts) (room size : ℕ) (old new : Ran) (made : GroupSets) : Type 0 where
   pub sets : made ≡ part_of m p room size
   pub runs : RunsMore (len_of room size p.pg_num) old new

@@ -3,8 +3,9 @@
 //! the change can place otherwise.
 //!
 //! - `table`, `pool_table`: the table of a map and what it shows, and the part of one pool
-//! - `rooms`, `shares`, `stretches`: where groups are placed side by side, in threads: all of a large pool, those of it that
-//!   a change names, or all of many pools
+//! - `rooms`: where groups are placed side by side, in threads
+//! - `parts`, `shares`, `stretches`: which of them, room by room: all of a large pool, those of it that a change names,
+//!   or all of many pools
 //! - `mapped`, `shown`: mapped sets as they are stored, and as callers see them
 //! - `patch`, `group_patches`, `prepare`, `install`: what a change makes of a table, how it is found, and how it is put
 //!   in
@@ -20,6 +21,7 @@ mod group_patches;
 mod install;
 mod mapped;
 mod named;
+mod parts;
 pub mod patch;
 pub mod pool_table;
 mod prepare;

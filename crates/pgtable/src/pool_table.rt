@@ -1,18 +1,13 @@
 //! The sets of the groups of one pool.
 
-ghost use Rattle.std.specs.Prelude.{◌≡◌, Some, IfOk, OnOk};
-ghost use Rattle.osdmap.specs.Maps.{pool_at};
-ghost use Rattle.pgtable.specs.Tables.{pool_table};
+ghost use Rattle.std.specs.Prelude.{◌≡◌};
 
-use crate::rooms::Rooms;
 use crate::shown::places_in;
 use grouptable::GroupTable;
 use keylist::Keyed;
 use maptypes::{Pg, Pool, Short};
-use osdmap::OsdMap;
 use refusal::Memory;
 use std::alloc::Global;
-use std::thread::Threads;
 
 /// The sets of the groups of one pool, and for each OSD the groups in whose set it stands.
 #[derive(Drop)]
@@ -22,33 +17,13 @@ pub struct PoolTable {
 }
 
 impl PoolTable {
-    ghost use Rattle.std.specs.Prelude.{◌≡◌, ◌++◌, ◌<◌, ◌≤◌, [], length, slice_get, Some, IfOk, OnOk};
+    ghost use Rattle.std.specs.Prelude.{◌≡◌, ◌++◌, ◌<◌, ◌≤◌, [], length, slice_get, Some, OnOk};
     ghost use Rattle.buckets.specs.Limits.{max_devices};
     ghost use Rattle.mapparts.specs.Limits.{max_groups};
     ghost use Rattle.maptypes.specs.Pools.{PoolFacts};
-    ghost use Rattle.osdmap.specs.Maps.{ClusterMap, pool_at};
+    ghost use Rattle.osdmap.specs.Maps.{ClusterMap};
     ghost use Rattle.osdmap.specs.Placement.{mapped_set};
-    ghost use Rattle.pgtable.specs.Rooms.{RunMore};
     ghost use Rattle.pgtable.specs.Tables.{pool_table, groups_on};
-
-    /// The mapped sets of the groups of a pool of a map, by a run of the pool's rule for each, in these rooms; or
-    /// `Memory` (30).
-    pub(crate) fn of<R: Threads + Sync>(
-        rt: &R,
-        alloc: Global,
-        map: &OsdMap,
-        pool: Pool,
-        rooms: &mut Rooms,
-    ) -> Result<PoolTable, Memory>
-        requires { pool_at map.now.map.pools pool.id ≡ Some pool }
-        ensures table { IfOk result (λ t. t ≡ pool_table map.now.map pool) }
-        ensures runs { OnOk result (RunMore pool.pg_num rooms.old rooms.new) }
-    {
-        pool.is_within_limits();
-        let sets = rooms.all_sets(rt, alloc, map, &pool)?;
-        let groups = GroupTable::of(alloc, sets)?;
-        Ok(PoolTable { pool, groups })
-    }
 
     /// The table of a pool without its groups. It takes no memory.
     pub(crate) fn empty(alloc: Global, pool: Pool) -> PoolTable

@@ -1,21 +1,17 @@
-//! Rooms in which the groups of a large pool are placed side by side: each room has a part of them, a `Work` and, while
-//! they are placed, a thread of its own.
+//! Rooms in which groups are placed side by side: each room has a `Work` and, while it places some, a thread of its
+//! own.
 
-ghost use Rattle.std.specs.Prelude.{◌≡◌, ◌<◌, ◌≤◌, ◌*◌, ◌+◌, ◌-◌, ◌^◌, ◌++◌, ℕ, min, map, length, slice_index_or, Some, IfOk, OnOk, IfSome, IsSome, All};
-ghost use Rattle.std.specs.List.{range_with_len};
-ghost use Rattle.mapparts.specs.Limits.{max_groups};
+ghost use Rattle.std.specs.Prelude.{◌≡◌, ◌<◌, ◌-◌, ◌^◌, min, map, length, IfOk};
 ghost use Rattle.maptypes.specs.Pools.{total_groups};
-ghost use Rattle.osdmap.specs.Maps.{pool_at};
-ghost use Rattle.osdmap.specs.Placement.{mapped_set};
-ghost use Rattle.pgtable.specs.Rooms.{start_of, part_of, parts_before, IsPart, RunMore, runs_of};
-ghost use Rattle.pgtable.specs.Tables.{pool_table, RunsMore};
+ghost use Rattle.pgtable.specs.Rooms.{runs_of};
 
-use crate::mapped::{all_mapped_sets, mapped_set};
+use crate::mapped::all_mapped_sets;
+use crate::parts::Parts;
 use crate::pool_table::PoolTable;
 use crush::{Forest, Work};
 use grouptable::{OsdSet, SetList};
 use maptypes::Pool;
-use osdmap::{OsdMap, Placing};
+use osdmap::OsdMap;
 use refusal::Memory;
 use std::alloc::Global;
 use std::marker::Model;
@@ -36,7 +32,7 @@ const MAX_ROOMS: usize = 16;
 #[derive(Drop)]
 pub(crate) struct Room {
     pub work: Work,
-    pub made: Option<Vec<OsdSet>>,
+    pub made: Option<SetList>,
     pub changes: Option<Vec<(u32, OsdSet)>>,
     pub tables: Option<Vec<PoolTable>>,
 }
@@ -56,106 +52,6 @@ impl Model for Rooms {
     ghost view = { λ r. map (λ room. room.work) r.rooms.items };
 
     ghost invariant = { λ r. 0 < length r.rooms.items };
-}
-
-/// Where the part of a room begins.
-fn start_of(room: usize, size: usize, count: u32) -> u32
-    ensures { result ≡ start_of room size count }
-{
-    room.saturating_mul(size).min(count as usize) as u32
-}
-
-/// The mapped sets of the groups of a pool from one number to below another, by a run for each; or `Memory` (30).
-fn sets_between(
-    alloc: Global,
-    placing: &Placing,
-    from: u32,
-    to: u32,
-    work: &mut Work,
-) -> Result<Vec<OsdSet>, Memory>
-    requires { from ≤ to }
-    ensures sets { IfOk result (λ sets. sets.items
-        ≡ map (mapped_set placing.now.map.now.map placing.now.pool) (range_with_len from (to - from))) }
-    ensures runs { OnOk result (RunsMore (to - from) work.old work.new) }
-{
-    let _ = work.runs();
-    let mut sets = Vec::with_capacity(alloc, (to - from) as usize)?;
-    for number in from..to {
-        sets.push(mapped_set(placing, number, work)?)?;
-    }
-    Ok(sets)
-}
-
-/// The part of a room is placed.
-fn place_part(alloc: Global, placing: &Placing, size: usize, number: usize, room: &mut Room)
-    ensures { IfSome room.new.made (λ made.
-        IsPart placing.now.map.now.map placing.now.pool number size room.old.work room.new.work made.items) }
-{
-    let count = placing.pool.pg_num();
-    let from = start_of(number, size, count);
-    let to = start_of(number.saturating_add(1), size, count);
-    room.made = sets_between(alloc, placing, from, to, &mut room.work).ok();
-}
-
-/// The parts of all rooms are placed, each in a thread of its own, or one after another where no thread can be made.
-fn place_parts<R: Threads + Sync>(
-    rt: &R,
-    alloc: Global,
-    placing: &Placing,
-    size: usize,
-    rooms: &mut [Room],
-)
-    requires { 0 < length rooms.old }
-    ensures { (k : ℕ) (d : Room) → k < length rooms.old → IfSome (slice_index_or rooms.new k d).made (λ made.
-        IsPart placing.now.map.now.map placing.now.pool k size (slice_index_or rooms.old k d).work
-        (slice_index_or rooms.new k d).work made.items) }
-{
-    let threads = rooms.len();
-    thread::for_each_mut(
-        rt,
-        rooms,
-        threads,
-        &|number, room| place_part(alloc, placing, size, number, room),
-    );
-}
-
-/// One more set for each group of a part; or `Memory` (30).
-fn add_sets(sets: &mut SetList, part: &[OsdSet]) -> Result<(), Memory>
-    requires fits { All (λ set. length set ≤ sets.old.width) part.now }
-    requires few { length sets.old.sets + length part.now ≤ max_groups }
-    ensures { OnOk result (sets.new ≡ record { width = sets.old.width; sets = sets.old.sets ++ part.now }) }
-{
-    for set in part {
-        sets.push(set)?;
-    }
-    Ok(())
-}
-
-/// The sets of the parts of all rooms, in their order; or `Memory` (30), which may have been short in a room.
-fn join_parts(
-    alloc: Global,
-    placing: &Placing,
-    size: usize,
-    rooms: &[Room],
-) -> Result<SetList, Memory>
-    requires there { pool_at placing.now.map.now.map.pools placing.now.pool.id ≡ Some placing.now.pool }
-    requires parts { (k : ℕ) (d : Room) → k < length rooms.now → IfSome (slice_index_or rooms.now k d).made (λ made.
-        made.items ≡ part_of placing.now.map.now.map placing.now.pool k size) }
-    ensures sets { IfOk result (λ sets. sets
-        ≡ parts_before placing.now.map.now.map placing.now.pool (length rooms.now) size) }
-    ensures all { OnOk result ((k : ℕ) (d : Room) → k < length rooms.now → IsSome (slice_index_or rooms.now k d).made) }
-{
-    let pool = placing.pool;
-    pool.is_within_limits();
-    placing.map.holds_together();
-    let mut sets = SetList::with_room(alloc, usize::from(pool.size()), pool.pg_num() as usize)?;
-    for room in rooms {
-        let Some(part) = &room.made else {
-            return Err(Memory);
-        };
-        add_sets(&mut sets, part)?;
-    }
-    Ok(sets)
 }
 
 /// What a room made of its share, which it then has no more.
@@ -190,26 +86,6 @@ pub(crate) fn forget(rooms: &mut [Room])
     for i in 0..rooms.len() {
         clear(&mut rooms[i]);
     }
-}
-
-/// The mapped sets of all groups of a pool, a part of them in each room; or `Memory` (30).
-fn place_in_parts<R: Threads + Sync>(
-    rt: &R,
-    alloc: Global,
-    placing: &Placing,
-    rooms: &mut [Room],
-) -> Result<SetList, Memory>
-    requires some { 0 < length rooms.old }
-    requires there { pool_at placing.now.map.now.map.pools placing.now.pool.id ≡ Some placing.now.pool }
-    ensures sets { IfOk result (λ sets. sets ≡ (pool_table placing.now.map.now.map placing.now.pool).groups) }
-    ensures runs { OnOk result (RunMore placing.now.pool.pg_num (map (λ room. room.work) rooms.old)
-        (map (λ room. room.work) rooms.new)) }
-{
-    let size = (placing.pool.pg_num() as usize).div_ceil(rooms.len());
-    place_parts(rt, alloc, placing, size, rooms);
-    let sets = join_parts(alloc, placing, size, rooms);
-    forget(rooms);
-    sets
 }
 
 /// So many rooms, whose works have counted no run; or `Memory` (30).
@@ -293,7 +169,13 @@ impl Rooms {
         ensures sets { IfOk result (λ sets. sets ≡ (pool_table map.now.map pool.now).groups) }
         ensures runs { OnOk result (RunMore pool.now.pg_num self.old self.new) }
     {
-        place_in_parts(rt, alloc, &map.placing(pool), &mut self.rooms)
+        let placing = map.placing(pool);
+        let size = (pool.pg_num() as usize).div_ceil(self.rooms.len());
+        let parts = Parts {
+            placing: &placing,
+            size,
+        };
+        parts.sets(rt, alloc, &mut self.rooms)
     }
 
     /// The mapped sets of all groups of a pool of a map, by a run of the pool's rule for each; or `Memory` (30).

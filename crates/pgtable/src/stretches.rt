@@ -165,10 +165,30 @@ fn has_large(pools: &[Pool], size: u64) -> bool
 }
 
 impl Rooms {
-    ghost use Rattle.std.specs.Prelude.{◌≡◌, ◌<◌, ◌^◌, IfOk, OnOk};
+    ghost use Rattle.std.specs.Prelude.{◌≡◌, ◌<◌, ◌^◌, Some, IfOk, OnOk};
     ghost use Rattle.maptypes.specs.Pools.{total_groups};
+    ghost use Rattle.osdmap.specs.Maps.{pool_at};
     ghost use Rattle.pgtable.specs.Rooms.{RunMore};
     ghost use Rattle.pgtable.specs.Stretches.{HasPools, tables_for};
+    ghost use Rattle.pgtable.specs.Tables.{pool_table};
+
+    /// The table of a pool of a map, by a run of the pool's rule for each of its groups; or `Memory` (30).
+    fn table<R: Threads + Sync>(
+        &mut self,
+        rt: &R,
+        alloc: Global,
+        map: &OsdMap,
+        pool: Pool,
+    ) -> Result<PoolTable, Memory>
+        requires { pool_at map.now.map.pools pool.id ≡ Some pool }
+        ensures table { IfOk result (λ t. t ≡ pool_table map.now.map pool) }
+        ensures runs { OnOk result (RunMore pool.pg_num self.old self.new) }
+    {
+        pool.is_within_limits();
+        let sets = self.all_sets(rt, alloc, map, &pool)?;
+        let groups = GroupTable::of(alloc, sets)?;
+        Ok(PoolTable { pool, groups })
+    }
 
     /// The tables of pools of a map, one pool after another; or `Memory` (30).
     fn tables_in_turn<R: Threads + Sync>(
@@ -185,7 +205,7 @@ impl Rooms {
         let _ = &self.rooms;
         let mut tables = Vec::with_capacity(alloc, pools.len())?;
         for pool in pools {
-            tables.push(PoolTable::of(rt, alloc, map, *pool, self)?)?;
+            tables.push(self.table(rt, alloc, map, *pool)?)?;
         }
         Ok(tables)
     }

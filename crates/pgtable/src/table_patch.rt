@@ -1,5 +1,8 @@
 //! The tables of all pools as a change makes them: with other sets for some groups, or anew.
 
+ghost use Rattle.std.specs.Prelude.{◌≡◌, ◌≢◌, ◌++◌, ◌∷◌, [], List, Some, None};
+ghost use Rattle.pgtable.specs.declared.pool_table.PoolTable.{PoolTable};
+
 use crate::group_patches::GroupPatches;
 use crate::patch::{KeptTable, NewTable, NewTables, PatchedTables, TablePatch};
 use crate::pool_table::PoolTable;
@@ -11,6 +14,24 @@ use maptypes::Pool;
 use refusal::Memory;
 use std::alloc::Global;
 use std::thread::Threads;
+
+/// Of a pool whose table is the last of some that were made anew, this table, which is then taken out.
+fn take_last(tables: &mut Vec<PoolTable>, pool: &Pool) -> Option<NewTable>
+    ensures own { (ts : List PoolTable) (t : PoolTable) → tables.old.items ≡ ts ++ t ∷ [] → t.pool.id ≡ pool.now.id
+        → (result ≡ Some (record { table = t; kept = None; evals = pool.now.pg_num })) × (tables.new.items ≡ ts) }
+    ensures other { ((ts : List PoolTable) (t : PoolTable) → tables.old.items ≡ ts ++ t ∷ []
+        → t.pool.id ≢ pool.now.id) → (result ≡ None) × (tables.new.items ≡ tables.old.items) }
+{
+    if tables.last()?.pool.id() != pool.id() {
+        return None;
+    }
+    let table = tables.pop()?;
+    Some(NewTable {
+        table,
+        kept: None,
+        evals: pool.pg_num() as usize,
+    })
+}
 
 impl PgTable {
     ghost use Rattle.std.specs.Prelude.{◌≡◌, true, slice_get, false, is_some, IfOk, OnOk};
@@ -59,49 +80,32 @@ impl PgTable {
         })
     }
 
-    /// The table of a pool as a change makes it: anew where it touches the pool as a whole; or `Memory` (30).
-    fn new_table<R: AllocGlobal + Threads + Sync>(
-        &self,
-        rt: &R,
-        update: &Update,
-        pool: &Pool,
-        rooms: &mut Rooms,
-    ) -> Result<NewTable, Memory>
-        requires table { IsTableOf self.now update.now.before.now.map }
-        requires there { HasPool update.now pool.now }
-        ensures made { IfOk result (λ r. MakesPool self.now.pools (map_after update.now) pool.now r.table r.kept) }
-        ensures evals { IfOk result (λ r. r.evals ≡ pool_evals update.now pool.now) }
-        ensures runs { OnOk result (RunMore (pool_evals update.now pool.now) rooms.old rooms.new) }
-    {
-        if update.is_touched(pool) {
-            let table = PoolTable::of(rt, rt.alloc(), update.source, *pool, rooms)?;
-            return Ok(NewTable {
-                table,
-                kept: None,
-                evals: pool.pg_num() as usize,
-            });
-        }
-        self.keep_table(rt, update, pool, rooms)
-    }
-
-    /// The tables of all pools that take the place of the old ones; or `Memory` (30).
+    /// The tables of all pools that take the place of the old ones: those of the pools that the change touches as a
+    /// whole are made together; or `Memory` (30).
     fn replace_tables<R: AllocGlobal + Threads + Sync>(
         &self,
         rt: &R,
         update: &Update,
         rooms: &mut Rooms,
     ) -> Result<PatchedTables, Memory>
-        requires { IsTableOf self.now update.now.before.now.map }
+        requires table { IsTableOf self.now update.now.before.now.map }
+        requires after { update.now.is_after ≡ true }
         ensures lead { IfOk result (λ r. LeadTables (map_after update.now) self.now r.tables) }
         ensures evals { IfOk result (λ r. r.evals ≡ change_evals update.now) }
         ensures runs { OnOk result (RunMore (change_evals update.now) rooms.old rooms.new) }
     {
         update.holds();
-        let mut pools = Vec::with_capacity(rt.alloc(), update.source.pools().len())?;
-        let mut kept = Vec::with_capacity(rt.alloc(), update.source.pools().len())?;
+        let source = update.source;
+        let touched = update.touched_pools(rt.alloc())?;
+        let mut made_anew = rooms.tables(rt, rt.alloc(), source, &touched)?;
+        let mut pools = Vec::with_capacity(rt.alloc(), source.pools().len())?;
+        let mut kept = Vec::with_capacity(rt.alloc(), source.pools().len())?;
         let mut evals = 0;
-        for pool in update.source.pools() {
-            let made = self.new_table(rt, update, pool, rooms)?;
+        for pool in source.pools() {
+            let made = match take_last(&mut made_anew, pool) {
+                Some(made) => made,
+                None => self.keep_table(rt, update, pool, rooms)?,
+            };
             pools.push(made.table)?;
             kept.push(made.kept)?;
             evals += made.evals;

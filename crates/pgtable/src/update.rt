@@ -91,8 +91,8 @@ impl<'a> Update<'a> {
 }
 
 impl Update<'_> {
-    ghost use Rattle.std.specs.Prelude.{◌≡◌, true};
-    ghost use Rattle.pgtable.specs.After.{map_after, is_touched_by};
+    ghost use Rattle.std.specs.Prelude.{◌≡◌, true, IfOk};
+    ghost use Rattle.pgtable.specs.After.{map_after, is_touched_by, touched_pools};
     ghost use Rattle.pgtable.specs.Candidates.{IsCandidates};
     ghost use Rattle.pgtable.specs.Patches.{LeadsFrom, IsSource, is_empty};
 
@@ -120,5 +120,21 @@ impl Update<'_> {
     {
         self.holds();
         self.is_after && touches(self.source, self.change, pool)
+    }
+
+    /// The pools of the map after the change that it touches as a whole, the last one first; or `Memory` (30).
+    pub fn touched_pools(&self, alloc: Global) -> Result<Vec<Pool>, Memory>
+        requires { self.now.is_after ≡ true }
+        ensures { IfOk result (λ pools. pools.items ≡ touched_pools self.now) }
+    {
+        self.holds();
+        let pools = self.source.pools();
+        let mut touched = Vec::new(alloc);
+        for at in (0..pools.len()).rev() {
+            if self.is_touched(&pools[at]) {
+                touched.push(pools[at])?;
+            }
+        }
+        Ok(touched)
     }
 }

@@ -35,6 +35,8 @@ pub struct Terms {
     pub journal: u32,
     /// Which maps and changes texts may state.
     pub profile: Profile,
+    pub ghost least: { 1 ≤ journal },
+    pub ghost most: { journal ≤ max_capacity },
 }
 
 /// The first map of a run, and what keeps its journal.
@@ -119,8 +121,6 @@ pub fn serve_map<
     parts: &[Part],
     out: &mut W,
 ) -> Result<(), Fault>
-    requires least { 1 ≤ terms.journal }
-    requires most { terms.journal ≤ max_capacity }
     requires some { 1 ≤ length parts.now }
     requires few { length parts.now ≤ max_scripts }
     requires unfailed { W.has_failed out.old ≡ false }
@@ -155,8 +155,6 @@ pub fn serve<R: AllocGlobal + Threads + Wait + Eprint + Sync, W: Sink>(
     parts: &[Part],
     out: &mut W,
 ) -> Result<(), Fault>
-    requires least { 1 ≤ terms.journal }
-    requires most { terms.journal ≤ max_capacity }
     requires some { 1 ≤ length parts.now }
     requires few { length parts.now ≤ max_scripts }
     requires unfailed { W.has_failed out.old ≡ false }

@@ -9,7 +9,6 @@ from ..program.map_forms import ITEMS, STOCK
 from ..values import SLOTS
 from ..words import some
 from .json_forms import AgainstParts
-from .moving_advice import HELD
 from .reasons.counts import FEW
 from .reasons.kinds import Against
 
@@ -38,6 +37,8 @@ class Advised:
         return {"code": self.code, "why": self.why, "advice": self.done or None}
 
 
+# What keeps data where it is where it would move by what is advised.
+HELD = "under norebalance, `hold --at` behind it keeps the data where it is"
 # What stands for the words that take the pools that come in, where some do.
 POOLS = "{pools}"
 # What stands for the words that say how much it moves.

@@ -2,13 +2,12 @@
 
 from __future__ import annotations
 
-from collections.abc import Mapping
+from collections.abc import Iterable
 from typing import Any
 
-from ..program.answers import Up
 from ..program.maps import Change, Entry, Exceptions, Map, altered, entries_of, group_key
 from .json_forms import MovedParts
-from .moving import coming, has_moved, leaving
+from .moving import OtherSet, coming, has_moved, leaving
 
 # The exceptions of a map, and the word that Ceph's commands have for each.
 EXCEPTION_WORDS = {"pg_upmap": "pg-upmap", "pg_upmap_items": "pg-upmap-items"}
@@ -100,16 +99,13 @@ def exception_commands(old: Exceptions, new: Exceptions, kept: Exceptions | None
     return found
 
 
-def moved_parts(before: Mapping[str, Up], after: Mapping[str, Up], erasure: set[int]) -> MovedParts:
-    """How many groups and places move, and which OSDs take part; `erasure` has the pools whose places each hold a part
-    of their own.
+def moved_parts(moved: Iterable[OtherSet], erasure: set[int]) -> MovedParts:
+    """How many groups and places move, and which OSDs take part, by the groups that have other places (`other_sets`);
+    `erasure` has the pools whose places each hold a part of their own.
     """
     groups, places = 0, 0
     osds: set[int] = set()
-    for group in before.keys() & after.keys():
-        was, now = before[group].places, after[group].places
-        if was == now:
-            continue
+    for group, was, now in moved:
         is_erasure = group_key(group)[0] in erasure
         come = coming(was, now, is_erasure)
         groups += has_moved(was, now, is_erasure)

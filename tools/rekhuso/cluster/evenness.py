@@ -4,8 +4,9 @@ from __future__ import annotations
 
 import math
 from collections import Counter, defaultdict
-from collections.abc import Iterable, Mapping, Sequence
+from collections.abc import Collection, Iterable, Mapping, Sequence
 from dataclasses import dataclass
+from functools import reduce
 from itertools import chain
 from operator import add
 from typing import cast
@@ -75,7 +76,9 @@ class Spread:
 
 def standing_in(sets: Iterable[Sequence[int | None]]) -> Counter[int]:
     """In how many of some sets each OSD stands."""
-    own = [places if len(set(places)) == len(places) else set(places) for places in sets]
+    own: list[Collection[int | None]] = list(sets)
+    if sum([len(set(places)) for places in own]) < sum(map(len, own)):
+        own = [places if len(set(places)) == len(places) else set(places) for places in own]
     found = Counter(chain.from_iterable(own))
     del found[None]
     return cast("Counter[int]", found)
@@ -85,11 +88,14 @@ def sums_by_osd(by_pool: Mapping[int, Mapping[int, float]]) -> dict[int, float]:
     """The sum over pools of what each OSD has of them."""
     found: defaultdict[int, float] = defaultdict(int)
     pools = list(by_pool.values())
-    if len({tuple(own) for own in {id(own): own for own in pools}.values()}) == 1:
-        sums = list(pools[0].values())
-        for own in pools[1:]:
-            sums = list(map(add, sums, own.values()))
-        found.update(zip(pools[0], sums))
+    apart = {id(own): own for own in pools}
+    if len({tuple(own) for own in apart.values()}) == 1:
+        # OSDs that have as much of each pool have the same sum, which is taken once.
+        order, known = list(map(list(apart).index, map(id, pools))), dict[tuple[float, ...], float]()
+        for osd, parts in zip(pools[0], zip(*(own.values() for own in apart.values()))):
+            if parts not in known:
+                known[parts] = reduce(add, map(parts.__getitem__, order))
+            found[osd] = known[parts]
         return found
     for own in pools:
         for osd, count in own.items():

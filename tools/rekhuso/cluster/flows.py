@@ -2,33 +2,35 @@
 
 from __future__ import annotations
 
-from collections.abc import Mapping
+from collections.abc import Iterable, Mapping
 
 from ..program.answers import Up
 from ..program.maps import group_key
 from .json_forms import FullestParts
-from .moving import passed_on
+from .moving import OtherSet, passed_on
 from .outage import filled
 from .shares import Shares
 
 
-def flows(before: Mapping[str, Up], after: Mapping[str, Up], erasure: set[int]) -> dict[tuple[int, int], int]:
-    """How many places go from each OSD to each other, of groups that are there before and after; `erasure` has the
-    pools whose places each hold a part of their own.
+def flows(moved: Iterable[OtherSet], erasure: set[int]) -> dict[tuple[int, int], int]:
+    """How many places go from each OSD to each other, by the groups that have other places (`other_sets`); `erasure`
+    has the pools whose places each hold a part of their own.
     """
     found: dict[tuple[int, int], int] = {}
-    for group in before.keys() & after.keys():
-        was, now = before[group].places, after[group].places
-        for pair in passed_on(was, now, group_key(group)[0] in erasure) if was != now else ():
+    for group, was, now in moved:
+        for pair in passed_on(was, now, group_key(group)[0] in erasure):
             found[pair] = found.get(pair, 0) + 1
     return found
 
 
+def thin_sets(ups: Mapping[str, Up], most: int) -> dict[str, Up]:
+    """The sets with fewer places than so many: of many few, which are looked at more closely."""
+    return {group: up for group, up in ups.items() if len(up.places) < most or None in up.places}
+
+
 def short_in(ups: Mapping[str, Up], least: Mapping[int, int]) -> list[str]:
     """The groups with fewer places than a number that their pool has; pools that have none aside."""
-    most = max(least.values(), default=0)
-    some = ((group, up) for group, up in ups.items() if len(up.places) < most or None in up.places)
-    return [group for group, up in some if filled(up) < least.get(group_key(group)[0], 0)]
+    return [group for group, up in ups.items() if filled(up) < least.get(group_key(group)[0], 0)]
 
 
 def fewer_in(groups: list[str], before: Mapping[str, Up], ups: Mapping[str, Up], least: Mapping[int, int]) -> list[str]:

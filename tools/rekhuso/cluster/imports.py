@@ -16,7 +16,6 @@ from .cluster import Cluster
 from .conversion import map_of
 from .dumps import Misfit, chosen_cluster, first_reasons
 from .map_parts import map_clusters
-from .moving_advice import import_moves
 from .names import with_pool_names
 from .reasons import reasons
 from .reasons.buckets import root_reasons
@@ -110,10 +109,13 @@ def free_pools(cluster: Cluster, faults: list[Misfit], is_unmatched: bool) -> st
 
 
 def with_advice(cluster: Cluster, faults: list[Misfit], found: list[Against], files: DumpFiles) -> list[Advised]:
-    """Each reason with what is done about it, and what that moves."""
-    pools = free_pools(cluster, faults, files.is_unmatched) if found else ""
+    """Each reason with what is done about it, and what that moves, which few clusters need."""
+    if not found:
+        return plain_reasons(cluster)
+    from .moving_advice import import_moves
+
     told = [import_moves(cluster, own.code, files.program) for own in found]
-    return advised(found, pools, told) + plain_reasons(cluster)
+    return advised(found, free_pools(cluster, faults, files.is_unmatched), told) + plain_reasons(cluster)
 
 
 def against(cluster: Cluster, faults: list[Misfit], files: DumpFiles, is_one: bool) -> list[str]:

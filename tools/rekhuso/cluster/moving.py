@@ -15,6 +15,15 @@ from ..program.maps import Pool, group_key, groups_in
 
 # The places of a set; None where one is empty.
 Places = Sequence["int | None"]
+# A group that has other places than before, with those before and those now.
+OtherSet = tuple[str, Places, Places]
+
+
+def other_sets(before: Mapping[str, Up], after: Mapping[str, Up]) -> list[OtherSet]:
+    """The groups that are there before and after and have other places then, with both."""
+    return [
+        (group, up.places, now) for group, up in before.items() if (now := after.get(group, up).places) != up.places
+    ]
 
 
 def has_moved(was: Places, now: Places, is_erasure: bool) -> bool:

@@ -15,12 +15,11 @@ from .cluster import Cluster, KINDS_BY_TYPE
 from .conversion import map_of, monitor_of
 from .difference import moved_parts
 from .map_parts import map_clusters
+from .moving import other_sets
 from .reasons import reasons
 
 # The key of a compat weight set.
 COMPAT = "-1"
-# What keeps data where it is where it would move by what is advised.
-HELD = "under norebalance, `hold --at` behind it keeps the data where it is"
 
 
 def with_sets(cluster: Cluster, sets: dict[str, Any]) -> Cluster:
@@ -49,7 +48,7 @@ def moved_places(old: Cluster, new: Cluster, program: Program) -> tuple[int, int
     except Fault:
         return None
     erasure = {pool["pool"] for pool in old.pools if KINDS_BY_TYPE[pool["type"]] == "erasure"}
-    return moved_parts(before, after, erasure)["places"], sum(
+    return moved_parts(other_sets(before, after), erasure)["places"], sum(
         len(up.places) - up.places.count(None) for up in before.values()
     )
 

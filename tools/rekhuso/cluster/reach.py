@@ -10,6 +10,7 @@ weight. Of several blocks it is their sum, where they share no OSD.
 
 from __future__ import annotations
 
+from collections import Counter
 from collections.abc import Iterator, Mapping
 from dataclasses import dataclass
 from fractions import Fraction
@@ -89,8 +90,10 @@ class Reach:
 
     def leaves(self, item: int, part: Fraction) -> dict[int, Fraction]:
         """A part of the groups, shared among the OSDs below an item by weight."""
+        weights = {osd: self.weight(osd) for osd in self.of_type(item, 0)}
         total = self.weight(item)
-        return {osd: part * self.weight(osd) / total for osd in self.of_type(item, 0)}
+        parts = {weight: part * weight / total for weight in set(weights.values())}
+        return {osd: parts[weight] for osd, weight in weights.items()}
 
     def given(self, root: int, steps: list[RuleStep], part: Fraction) -> dict[int, Fraction]:
         """What steps give the OSDs below a bucket that has a part of the groups."""
@@ -117,10 +120,14 @@ class Reach:
         groups.
         """
         found = self.given(root, steps, Fraction(1)) if root < 0 and steps else {}
-        whole, total = sum(found.values(), Fraction(0)), sum(self.weights.values())
-        if all(found.get(osd, 0) * total == whole * weight for osd, weight in self.weights.items()):
+        # OSDs that weigh the same below one bucket have the same part, which is reckoned with once.
+        parts, counts = {id(own): own for own in found.values()}, Counter(map(id, found.values()))
+        whole, total = sum((own * counts[at] for at, own in parts.items()), Fraction(0)), sum(self.weights.values())
+        none = Fraction(0)
+        alike = {(id(own), weight): own for osd, weight in self.weights.items() for own in [found.get(osd, none)]}
+        if all(own * total == whole * weight for (_, weight), own in alike.items()):
             self.full.clear()
             return dict(self.weights)
-        exact = lcm(*(own.denominator for own in found.values()))
+        exact = lcm(*(own.denominator for own in parts.values()))
         unit = exact if exact <= EXACT else PARTS
         return {osd: int(found.get(osd, 0) * unit) for osd in self.weights}

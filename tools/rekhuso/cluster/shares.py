@@ -20,7 +20,7 @@ class Shares:
         """Takes a lawful map and the up set of each of its groups."""
         self.value, self.ups = value, ups
         self.osds = {osd["id"]: osd for osd in value["osds"]}
-        self.sets = {pool["id"]: [ups[group] for group in groups_in(pool)] for pool in value["pools"]}
+        self.sets = {pool["id"]: list(map(ups.__getitem__, groups_in(pool))) for pool in value["pools"]}
         self.counts_in = {pool["id"]: self.counted(pool) for pool in value["pools"]}
         self.counts = Counter[int](sums_by_osd(self.counts_in))
         self.buckets = {bucket["id"]: bucket for bucket in value["buckets"]}
@@ -38,7 +38,7 @@ class Shares:
         """Those of a map with other exceptions alone, by which groups of some pools have other sets."""
         found = copy(self)
         found.value, found.ups, pools = value, ups, [pool for pool in value["pools"] if pool["id"] in moved]
-        found.sets = {**self.sets, **{pool["id"]: [ups[group] for group in groups_in(pool)] for pool in pools}}
+        found.sets = {**self.sets, **{pool["id"]: list(map(ups.__getitem__, groups_in(pool))) for pool in pools}}
         found.counts_in = {**self.counts_in, **{pool["id"]: found.counted(pool) for pool in pools}}
         found.counts = Counter(sums_by_osd(found.counts_in))
         found.shares_by = {**self.shares_by, **{pool["id"]: found.shares_in(pool) for pool in pools}}
@@ -53,7 +53,7 @@ class Shares:
 
     def counted(self, pool: Pool) -> Counter[int]:
         """In how many groups of a pool each OSD stands."""
-        return standing_in(up.places for up in self.ups_in(pool))
+        return standing_in([up.places for up in self.ups_in(pool)])
 
     def weights_for(self, pool: Pool) -> dict[int, int]:
         """The weights of the OSDs that may have groups of a pool: they are below what its rule takes, up and in."""
@@ -176,7 +176,8 @@ class Shares:
         """What is told of a bucket and all below it, each with its depth."""
         if number >= 0:
             return [(depth, self.osd_row(number))]
-        own = [self.osd_row(osd) for osd in self.below(number)]
+        below = [row for item, _ in self.buckets[number]["items"] for row in self.rows(item, depth + 1)]
+        own = [row for _, row in below if row["id"] >= 0]
         total: RowParts = {
             "id": number,
             "type": self.buckets[number]["type"],
@@ -185,9 +186,7 @@ class Shares:
             "share": round(sum(self.wanted.get(row["id"], 0.0) for row in own), 2),
             "reach": round(sum(self.reached.get(row["id"], 0.0) for row in own), 2),
         }
-        return [(depth, total)] + [
-            row for item, _ in self.buckets[number]["items"] for row in self.rows(item, depth + 1)
-        ]
+        return [(depth, total), *below]
 
     def full_parts(self, pool: Pool) -> list[FullParts]:
         """What is told of the buckets that are full, those first that are farthest from what they weigh for."""

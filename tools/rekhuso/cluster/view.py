@@ -12,6 +12,7 @@ from ..files import json_of, text_of
 from ..program.answers import Up
 from ..program.map_forms import list_of, number_between, object_of, one_of, tuple_of
 from ..program.maps import Bucket, Map, Pool, Program, altered
+from .advice import HELD
 from .affinity import affinities_of, all_with_affinity
 from .cluster import Cluster
 from .conversion import bucket_of, map_of, monitor_of
@@ -19,7 +20,6 @@ from .dump_forms import is_crush_dump
 from .imports import ImportedCluster, imported
 from .map_files import map_in, map_with_sets
 from .map_parts import map_clusters
-from .moving_advice import HELD, compat_words
 from .names import Names, names_in
 from .primaries import NamedPrimaries, primaries_in
 from .reach import Full
@@ -91,7 +91,9 @@ class ClusterView:
         return NamedPrimaries(dump, self.maps, program)
 
     def no_plan(self, program: Program) -> str:
-        """That no plan is made of it, as a weight set is in force."""
+        """That no plan is made of it, as a weight set is in force. What reckons how much it moves comes in here."""
+        from .moving_advice import compat_words
+
         return no_plan_words(compat_words(self.found.cluster, program) if self.found else "")
 
     def shares(self, ups: dict[str, Up]) -> Shares:

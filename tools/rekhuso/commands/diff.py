@@ -12,7 +12,7 @@ from ..cluster.difference import change_of, moved_parts
 from ..cluster.flows import flows
 from ..cluster.imports import imported
 from ..cluster.map_files import map_with_sets
-from ..cluster.moving import erasure_pools, with_split_groups
+from ..cluster.moving import erasure_pools, other_sets, with_split_groups
 from ..cluster.names import Names, names_in, with_names
 from ..cluster.primaries import named_primaries, other_primaries
 from ..cluster.sources import Source
@@ -83,9 +83,9 @@ def work(options: DiffOptions) -> None:
     names = {kind: {**old.names.get(kind, {}), **own} for kind, own in new.names.items()}
     erasure = erasure_pools(new.value["pools"])
     there = with_split_groups(old.sets, old.value["pools"], new.value["pools"])
-    unsaid, told = [with_names(line, names) for line in unsaid], moved_parts(there, new.sets, erasure)
-    moved = flows(there, new.sets, erasure)
-    pairs = [[*pair, count] for pair, count in sorted(moved.items(), key=lambda own: (-own[1], own[0]))]
+    moved = other_sets(there, new.sets)
+    unsaid, told = [with_names(line, names) for line in unsaid], moved_parts(moved, erasure)
+    pairs = [[*pair, count] for pair, count in sorted(flows(moved, erasure).items(), key=lambda own: (-own[1], own[0]))]
     if options.is_json:
         epochs = old.value["epoch"], new.value["epoch"]
         put_json("diff", epochs[0], new_epoch=epochs[1], change=change, unsaid=unsaid, **told, flows=pairs)

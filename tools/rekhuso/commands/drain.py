@@ -15,10 +15,11 @@ from __future__ import annotations
 import sys
 from dataclasses import dataclass
 
+from ..cluster.advice import HELD
 from ..cluster.cluster import Cluster
 from ..cluster.data_files import DataFiles
 from ..cluster.imports import imported
-from ..cluster.moving_advice import HELD, compat_words
+from ..cluster.moving_advice import compat_words
 from ..cluster.reports import with_both
 from ..cluster.sources import Source
 from ..cluster.view import ClusterView

@@ -48,7 +48,8 @@ from ..output.json_output import put_json
 from ..output.origins import Origin, origin_of, origin_of_map
 from ..output.plan_scripts import Script, WATCH, balancer_words, client_words, part_file
 from ..output.plan_states import reasons_of, state_line, state_of
-from ..output.plan_words import plan_lines, quiet_words, refusal_words, worth_words
+from ..output.plan_words import plan_lines, quiet_words, worth_words
+from ..output.refusal_words import refusal_words
 from ..plans.after_plan import quiet_deviation, rested_after
 from ..plans.busy import ALL
 from ..plans.hold_checks import check_still, told_words

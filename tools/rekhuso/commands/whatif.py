@@ -12,18 +12,17 @@ from __future__ import annotations
 from dataclasses import dataclass
 
 from ..cluster.aftermath import Command, StateChange
+from ..cluster.cluster import Cluster
 from ..cluster.names import Names, named
 from ..cluster.sources import Source
 from ..cluster.view import ClusterView, view_of
 from ..faults import Fault, Misuse
-from ..files import put
+from ..files import JsonObject, put
 from ..output.flow_picture import flow_picture
 from ..output.flow_words import flow_lines, fullest_words, move_words, unbalanced_words
-from ..output.hold_words import hold_lines
 from ..output.json_output import put_json
-from ..plans.hold import hold_of_change
 from ..plans.question import Balance, Question
-from ..program.maps import Map, altered
+from ..program.maps import Map, Program, altered
 from ..values import SLOTS
 from ..words import counted
 from .arguments import ABOUT_FILES, FILES, Arguments, Commands, add_json, add_names, putting, set_work, source_of, usage
@@ -136,6 +135,17 @@ def commands_of(options: WhatifOptions, question: Question) -> list[Command]:
     return options.asked.commands(question.whole, question.cluster, options.source.program)
 
 
+def held_behind(cluster: Cluster, steps: list[Command], program: Program) -> tuple[JsonObject, list[str]]:
+    """What a hold of a change would leave, as JSON and in lines. What holds comes in here: it takes long, and few ask
+    for it.
+    """
+    from ..output.hold_words import hold_lines
+    from ..plans.hold import hold_of_change
+
+    hold = hold_of_change(cluster, steps, program)
+    return {"hold": hold.told()}, hold_lines(hold)
+
+
 def work(options: WhatifOptions) -> None:
     """Tells what moves."""
     view = view_of(options.source)
@@ -145,15 +155,14 @@ def work(options: WhatifOptions) -> None:
         return
     steps = commands_of(options, question)
     found, now = question.result(steps)
-    hold = hold_of_change(question.cluster, steps, options.source.program) if options.is_held else None
+    parts, lines = held_behind(question.cluster, steps, options.source.program) if options.is_held else ({}, [])
     if options.picture is not None:
         both = {**now.names, **view.names}
         put(options.picture, flow_picture(pictured(view, now), found["flows"], found["groups"], both))
     if options.is_json:
-        put_json("whatif", view.tree["epoch"], **found, **({} if hold is None else {"hold": hold.told()}))
+        put_json("whatif", view.tree["epoch"], **found, **parts)
     else:
-        lines = flow_lines(found, view.names, "\n".join(question.warnings()))
-        print("\n".join(lines + ([] if hold is None else hold_lines(hold))))
+        print("\n".join(flow_lines(found, view.names, "\n".join(question.warnings())) + lines))
 
 
 def add_to(commands: Commands) -> None:

@@ -38,16 +38,18 @@ def ratio(groups: int, share: float) -> float | None:
 
 def disk_parts(osds: Iterable[int], disks: Mapping[int, Disk]) -> JsonObject:
     """What is told of the disks of some OSDs, under the keys of Ceph's own JSON; nothing where none is known."""
+    if not disks:
+        return {}
     own = [disks[osd] for osd in osds if osd in disks]
     size, used, free = (sum(getattr(disk, key) for disk in own) // KIB for key in ("size", "used", "free"))
-    found = {"kb": size, "kb_used": used, "kb_avail": free, "utilization": 100 * used / size if size else 0.0}
-    return found if disks else {}
+    return {"kb": size, "kb_used": used, "kb_avail": free, "utilization": 100 * used / size if size else 0.0}
 
 
 def node(shares: Shares, row: RowParts, names: Names, disks: Mapping[int, Disk]) -> JsonObject:
     """What is told of an OSD or a bucket, under the keys of Ceph's own JSON, and with its share."""
     number = row["id"]
-    filled = ratio(row["groups"], sum(shares.wanted.get(osd, 0.0) for osd in shares.below(number)))
+    below = shares.below(number)
+    filled = ratio(row["groups"], sum([shares.wanted.get(osd, 0.0) for osd in below]))
     found = {
         "id": number,
         "name": named(names, "buckets" if number < 0 else "osds", number),
@@ -56,7 +58,7 @@ def node(shares: Shares, row: RowParts, names: Names, disks: Mapping[int, Disk])
         "share": row["share"],
         "reach": row["reach"],
         "ratio": None if filled is None else round(filled, 4),
-        **disk_parts(shares.below(number), disks),
+        **disk_parts(below, disks),
     }
     if number < 0:
         kind = names.get("types", {}).get(str(row["type"]), f"type {row['type']}")

@@ -5,7 +5,7 @@ from __future__ import annotations
 from ..cluster.names import Names, named, pool_words
 from ..plans.json_forms import FlowParts
 from ..words import counted, some
-from .plan_words import why_words
+from .refusal_words import why_words
 
 
 def fullest_words(found: FlowParts) -> str:

@@ -9,7 +9,7 @@ from dataclasses import dataclass
 
 from ..cluster.disks import Disk
 from ..cluster.flows import flows
-from ..cluster.moving import erasure_pools
+from ..cluster.moving import erasure_pools, other_sets
 from ..cluster.names import Names, named
 from ..cluster.shares import Shares, spread_parts
 from ..cluster.view import ClusterView
@@ -143,7 +143,7 @@ def figure(picture: str, least: float = 1) -> str:
 def plan_pictures(whole: ClusterView, sets: dict[str, Up], steps: list[PlanStep]) -> str:
     """The OSDs before a plan and after it, and what moves from which host to which."""
     after = {**sets, **{step.group: sets[step.group]._replace(places=step.now) for step in steps}}
-    moved = flows(sets, after, erasure_pools(whole.pools))
+    moved = flows(other_sets(sets, after), erasure_pools(whole.pools))
     pairs = [[*pair, count] for pair, count in sorted(moved.items())]
     sides = osd_picture([whole.shares(sets), whole.shares(after)], whole.names, ["before", "after"])
     between = flow_picture(whole.tree, pairs, sum(map(PlanStep.is_moving, steps)), whole.names)

@@ -4,7 +4,7 @@ from __future__ import annotations
 
 from ..plans.plan import Outcome
 from ..words import counted
-from .plan_words import why_words
+from .refusal_words import why_words
 
 PLANNED, EVEN, BARRED = "planned", "nothing to do", "nothing can be planned"
 

@@ -10,10 +10,7 @@ from ..plans.plan import Outcome
 from ..plans.rounds import MOST_MOVES
 from ..words import counted, size_words, some
 from .fill_words import fill_words, osd_words, room_words, spread_words, use_words
-
-# The number of the refusal of a pool whose rule has several blocks, and what is said of it.
-BLOCKS = "29 "
-OF_BLOCKS = "its rule takes OSDs in several steps, of which the balancer plans none"
+from .refusal_words import refusal_words
 
 # Of how many OSDs that stay too full it is told why, and the words for what keeps a pool's groups there.
 MOST_STAYS = 5
@@ -29,16 +26,6 @@ KEPT_BY = {
     "evenness": "groups or bytes would be less even than before the plan",
     "monitor": "the program or Ceph's monitor would not keep them elsewhere",
 }
-
-
-def why_words(refusal: str) -> str:
-    """Why a pool gets no plan."""
-    return f"{OF_BLOCKS} ({refusal})" if refusal.startswith(BLOCKS) else refusal
-
-
-def refusal_words(refusal: str) -> str:
-    """That a pool gets no plan, and why."""
-    return f"no plan: {why_words(refusal)}"
 
 
 def left_words(left: list[str], why: str) -> str:

@@ -9,12 +9,13 @@ from __future__ import annotations
 from collections.abc import Iterable, Mapping
 
 from ..cluster.evenness import FULL, Spread
+from ..cluster.disks import Disk
 from ..cluster.pool_data import BYTE_PARTS, Data
 from ..program.answers import Up
 from .rounds import Live
 
-# The least part of its disk that an OSD is to hold.
-LEAST = 0.05
+# The least part of its disk that an OSD is to hold, and the bits of a disk's size that are more than rounding.
+LEAST, GRAIN_BITS = 0.05, 21
 
 
 def held_in(sizes: list[int], ups: Iterable[Up]) -> dict[int, int]:
@@ -25,6 +26,19 @@ def held_in(sizes: list[int], ups: Iterable[Up]) -> dict[int, int]:
             if osd is not None:
                 found[osd] = found.get(osd, 0) + size
     return found
+
+
+def grain(disk: Disk) -> int:
+    """The bytes to which what a disk has beside the pools is taken: a part of two millions of it, or less."""
+    return 1 << max(disk.size.bit_length() - GRAIN_BITS, 0)
+
+
+def base_of(disk: Disk, held: int) -> int:
+    """What a disk has beside so much that its pools hold, in parts of a byte: to the nearest grain, so that what files
+    tell in whole KiB is the same however much of the pools lies there.
+    """
+    own = grain(disk) * BYTE_PARTS
+    return (2 * (disk.used * BYTE_PARTS - held) + own) // (2 * own) * own
 
 
 def joined(trees: Iterable[Iterable[int]]) -> list[set[int]]:
@@ -64,19 +78,19 @@ class ByteAims:
         numbers = [number for live in lives for number in live.pools]
         self.is_whole = data.is_whole(numbers)
         self.disks = data.disks if self.is_whole else {}
-        self.base = {osd: self.disks[osd].used * BYTE_PARTS - held.get(osd, 0) for osd in want if self.disks}
+        self.base = {osd: base_of(self.disks[osd], held.get(osd, 0)) for osd in want if self.disks}
         self.has = {osd: (size + self.base.get(osd, 0)) / BYTE_PARTS for osd, size in held.items()}
         self.want = {osd: own / BYTE_PARTS for osd, own in want.items()}
         if self.disks:
             weights = {osd: own for live in lives for osd, own in live.before.items.items() if osd >= 0}
-            self.has.update({osd: float(self.disks[osd].used) for osd in want})
+            self.has.update({osd: (held.get(osd, 0) + base) / BYTE_PARTS for osd, base in self.base.items()})
             self.want = self.by_room(joined(trees), weights)
 
     def by_room(self, joint: list[set[int]], weights: Mapping[int, int]) -> dict[int, float]:
         """What OSDs are to have so that what is left on them goes by their weights."""
         found: dict[int, float] = {}
         for osds in joint:
-            left = sum(FULL * self.disks[osd].size - self.disks[osd].used for osd in osds)
+            left = sum(FULL * self.disks[osd].size - self.has[osd] for osd in osds)
             rate = left / sum(weights[osd] for osd in osds)
             for osd in osds:
                 size = self.disks[osd].size
@@ -89,4 +103,4 @@ class ByteAims:
 
     def limits(self, ratio: float) -> dict[int, float]:
         """The bytes up to which OSDs may be filled, where their disks are known and may be used to this ratio."""
-        return {osd: ratio * disk.size for osd, disk in self.disks.items()}
+        return {osd: ratio * disk.size - grain(disk) for osd, disk in self.disks.items()}

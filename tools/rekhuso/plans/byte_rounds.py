@@ -14,6 +14,7 @@ from .group_pass import GroupPass
 from .hindrances import hindrances
 from .json_forms import HindranceParts
 from .last_pass import LastPass
+from .rooms import DATA_FIRST, Rooms, take_back_unfit
 from .rounds import Planner
 
 
@@ -29,7 +30,7 @@ class Passed:
 
 
 def last_pass(
-    planner: Planner, aims: ByteAims, is_first: bool, tell: Callable[[str], None]
+    planner: Planner, aims: ByteAims, is_first: bool, rooms: Rooms | None, tell: Callable[[str], None]
 ) -> tuple[list[str], LastPass]:
     """Makes the moves of the last pass, and where it does not come first those of the one by groups: the groups that
     have been moved, in the order in which they first were, and what lies where then.
@@ -37,7 +38,7 @@ def last_pass(
     with ExitStack() as stack:
         for live in planner.lives:
             stack.enter_context(live.all_up())
-        found = LastPass(planner, aims, not is_first)
+        found = LastPass(planner, aims, not is_first, rooms)
         found.play(tell)
         if not is_first:
             GroupPass(found, planner.half / 256).play(tell)
@@ -45,16 +46,23 @@ def last_pass(
 
 
 def planned_by_data(
-    planner: Planner, aims: ByteAims, is_room: bool, most: int | None, tell: Callable[[str], None]
+    planner: Planner, aims: ByteAims, is_room: bool, most: int | None, rooms: Rooms | None, tell: Callable[[str], None]
 ) -> Passed:
     """Plans pools by data. For room there is the last pass alone. Where no more than so many commands are wanted, it
-    comes first too, and the scheme only where they are not enough.
+    comes first too, and the scheme only where they are not enough. Where disks are to have room for all that comes, the
+    moves of the scheme for which they have none are taken back before the last pass, which makes others; and the last
+    pass may come before the scheme too.
     """
     first = list[str]()
     if is_room or most is not None:
-        first, found = last_pass(planner, aims, True, tell)
+        first, found = last_pass(planner, aims, True, rooms, tell)
         if is_room or most is None or len(first) >= most:
             return Passed(first, first, hindrances(found))
+    early = list[str]()
+    if rooms is not None and rooms.way == DATA_FIRST:
+        early, found = last_pass(planner, aims, True, rooms, tell)
     planner.play(tell)
-    more, found = last_pass(planner, aims, False, tell)
-    return Passed(first, first + more, hindrances(found))
+    if rooms is not None:
+        take_back_unfit(planner, aims, rooms)
+    more, found = last_pass(planner, aims, False, rooms, tell)
+    return Passed(first, [*first, *early, *more], hindrances(found))

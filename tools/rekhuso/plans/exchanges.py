@@ -9,7 +9,7 @@ exchanges as are tried gain more.
 from __future__ import annotations
 
 from bisect import bisect_left, insort
-from collections.abc import Callable, Iterable, Iterator
+from collections.abc import Callable, Iterable
 
 from .fullness import Fullness
 
@@ -18,8 +18,8 @@ NEAREST = 2
 # What is lost by an exchange, the pool of which something goes and the OSD to which it goes, how much that is, and the
 # pool of which something comes back, and how much.
 Exchange = tuple[float, int, int, int, int, int]
-# What comes back, the pool of which it is, and the how manieth size of the pool that is.
-Entry = tuple[int, int, int]
+# What comes back, and the pool of which it is.
+Entry = tuple[int, int]
 
 
 class BestExchanges:
@@ -43,26 +43,14 @@ class Backs:
     """What may come back from an OSD, of several pools."""
 
     def __init__(self, pools: Iterable[tuple[int, list[int]]]) -> None:
-        """Takes pools, each with what its places hold there, which ascends."""
-        self.of_pool = dict(pools)
-        entries = ((size, pool, at) for pool, sizes in self.of_pool.items() for at, size in enumerate(sizes))
-        self.entries: list[Entry] = sorted(entries)
-        self.sizes = [size for size, _, _ in self.entries]
+        """Takes pools, each with what its places hold there, each size once."""
+        self.entries: list[Entry] = sorted((size, pool) for pool, sizes in pools for size in sizes)
+        self.sizes = [size for size, _ in self.entries]
 
-    def nearest(self, middle: float) -> tuple[Iterator[Entry], Iterator[Entry]]:
-        """What holds no less than so much, and what holds less, the nearest first; of each pool a few at each side."""
-        at, first = bisect_left(self.sizes, middle), dict[int, int]()
-
-        def is_near(entry: Entry) -> bool:
-            """Whether it is one of the nearest of its pool."""
-            _, pool, place = entry
-            if pool not in first:
-                first[pool] = bisect_left(self.of_pool[pool], middle)
-            return -NEAREST <= place - first[pool] < NEAREST
-
-        above = (self.entries[one] for one in range(at, len(self.entries)))
-        below = (self.entries[one] for one in range(at - 1, -1, -1))
-        return filter(is_near, above), filter(is_near, below)
+    def nearest(self, middle: float) -> tuple[range, range]:
+        """Which entries hold no less than so much, and which hold less, the nearest first."""
+        at = bisect_left(self.sizes, middle)
+        return range(at, len(self.entries)), range(at - 1, -1, -1)
 
 
 class Limit:
@@ -95,11 +83,15 @@ class OsdPair:
         return self.full.gain(self.leaves, self.comes, more)
 
     def put(self, found: BestExchanges, pool: int, size: int, backs: Backs) -> None:
-        """Puts exchanges by which so much goes of a pool to those that are found, as far as they are among the best."""
-        for entries in backs.nearest(size - self.best):
-            for less, other, _ in entries:
+        """Puts exchanges by which so much goes of a pool to those that are found, as far as they are among the best: of
+        each pool that comes back a few at either side of the best.
+        """
+        for places in backs.nearest(size - self.best):
+            seen = dict[int, int]()
+            for less, other in map(backs.entries.__getitem__, places):
                 gain = self.gain(size - less)
                 if gain <= 0 or found.is_beaten(gain):
                     break
-                if self.limit.lets(size - less):
+                seen[other] = count = seen.get(other, 0) + 1
+                if count <= NEAREST and self.limit.lets(size - less):
                     found.put((-gain, pool, self.comes, size, other, less))

@@ -43,9 +43,10 @@ class Fullness:
         """By how much the sum of want * (ratio - 1) ** 2 falls where so much goes from an OSD to another; 0 where the
         other would be as full then.
         """
-        if size <= 0 or (self.load[osd] + size) * self.want[full] >= self.load[full] * self.want[osd]:
+        has, own, low, other = self.load[full], self.want[full], self.load[osd], self.want[osd]
+        if size <= 0 or (low + size) * own >= has * other:
             return 0.0
-        return size * (2 * (self.ratio(full) - self.ratio(osd)) - size * self.slope(full, osd))
+        return size * (2 * (has / own - low / other) - size * (1 / own + 1 / other))
 
     def best_size(self, full: int, osd: int) -> float:
         """By how much going from an OSD to another most is gained."""

@@ -47,24 +47,23 @@ class GroupPass:
 
     def low(self, own: PoolPlaces, leaves: int) -> list[int]:
         """The OSDs to which groups of a pool may go from another, of those with fewest groups above their shares."""
-        found, block, laid = self.found, own.block_of(leaves), self.found.laid[own.number]
-        if block is None or leaves not in laid.shares or not found.leaving(own, leaves):
+        found, block, beside = self.found, own.block_of(leaves), self.found.beside(own, leaves)
+        if block is None or not beside or not found.leaving(own, leaves):
             return []
         closed, domains, most = found.closed(own, leaves), block.domains, found.above[leaves] - GROUP_PARTS
-        there = (osd for osd in found.ranked if osd in laid.shares and osd not in laid.closed)
-        few = islice((osd for osd in there if block.is_beside(leaves, osd) and found.above[osd] < most), LOWEST)
+        few = islice((osd for osd in found.ranked if osd in beside and found.above[osd] < most), LOWEST)
         return [osd for osd in few if domains[osd] not in closed and found.keeps(own.number, leaves, osd)]
 
     def ways(self, leaves: int) -> Iterator[Way]:
         """The moves from an OSD that gain enough."""
         full = self.found.full
         for own in self.found.movable:
-            sizes = [size for size, _ in own.by_size(leaves)] if own.on.get(leaves) else []
+            sizes = own.sizes_on(leaves) if own.on.get(leaves) else []
             for osd in self.low(own, leaves) if sizes else []:
                 room = (1 + NEAR) * full.want[osd] - full.load[osd]
                 for size in sizes:
                     gain = self.gain(own.number, leaves, osd, size)
-                    if size <= max(room, 0) and gain > self.least:
+                    if size <= max(room, 0) and gain > self.least and self.found.lets(own, size, leaves, osd):
                         yield -gain, own.number, osd, size
 
     def has_moved(self, leaves: int) -> bool:

@@ -26,6 +26,7 @@ from .fullness import Fullness
 from .loads import GROUP_PARTS
 from .mend import Gauge
 from .pool_places import PoolPlaces
+from .rooms import Rooms
 from .rounds import Live, Planner
 from .single_moves import moved, take_back
 
@@ -80,17 +81,21 @@ class LastPass:
     above its shares of all pools.
     """
 
-    def __init__(self, planner: Planner, aims: ByteAims, is_even: bool) -> None:
-        """Takes the pools as they have been planned, what their groups hold and OSDs are to hold, and whether groups
-        stay as even as they are at first.
+    def __init__(self, planner: Planner, aims: ByteAims, is_even: bool, rooms: Rooms | None = None) -> None:
+        """Takes the pools as they have been planned, what their groups hold and OSDs are to hold, whether groups stay
+        as even as they are at first, and how much may still come to disks, where that is asked.
         """
         self.laid, self.aims, self.full, self.above = planner.laid, aims, Fullness(aims.want), dict[int, int]()
         self.pools = {own.number: own for live in planner.lives for own in pools_in(live, planner.left)}
+        self.over = {number: self.laid[number].deviations() for number in self.pools}
         for number, own in self.pools.items():
             own.sizes = aims.sizes[number]
             self.full.add(own.held())
-            for osd, parts in self.laid[number].deviations().items():
+            for osd, parts in self.over[number].items():
                 self.above[osd] = self.above.get(osd, 0) + parts
+        self.rooms, self.is_unfit = rooms, False
+        if rooms is not None:
+            rooms.lay(self.pools)
         self.full.add(aims.base)
         movable = [self.pools[number] for number in planner.order]
         free = [own for own in movable if not own.is_barred() and not own.is_left_alone()]
@@ -101,6 +106,10 @@ class LastPass:
         self.ranked: list[int] = []
         self.kept: dict[tuple[int, int], dict[int, set[int]]] = {}
         self.kept_closed: dict[tuple[int, int], set[int]] = {}
+        self.kept_beside: dict[tuple[int, int], frozenset[int]] = {}
+        self.alike: dict[tuple[int, int, tuple[int | None, ...]], frozenset[int]] = {}
+        self.kept_near: dict[tuple[int, int, int], list[int]] = {}
+        self.limits: dict[tuple[int, int, int], Limit] = {}
         self.shut: set[tuple[int, int, int, int]] = set()
         self.moves: list[str] = []
 
@@ -108,9 +117,8 @@ class LastPass:
 
     def keeps(self, number: int, leaves: int, comes: int) -> bool:
         """Whether a pool stays near its shares, or gets nearer, where a group goes from an OSD to another."""
-        shares, counts = self.laid[number].shares, self.laid[number].counts
-        more, less = (counts.get(osd, 0) * GROUP_PARTS - shares[osd] for osd in (leaves, comes))
-        return is_near(more, less, self.most[number])
+        over = self.over[number]
+        return is_near(over[leaves], over[comes], self.most[number])
 
     def keeps_all(self, leaves: int, comes: int) -> bool:
         """The same of all pools together."""
@@ -122,6 +130,19 @@ class LastPass:
         OSDs far above their shares, and at first, by groups alone and as even as it was before the pass.
         """
         return all(gauge.lets(leaves, comes, own) for gauge, own in zip(self.gauges, (groups, size / BYTE_PARTS)))
+
+    def limit(self, leaves: int, comes: int, groups: int) -> Limit:
+        """How much may go from an OSD to another so that all stays as even, where so many groups more go than come
+        back. What is found is kept until something moves.
+        """
+        key = leaves, comes, groups
+        if key not in self.limits:
+            self.limits[key] = Limit(partial(self.stays_even, *key))
+        return self.limits[key]
+
+    def lets(self, own: PoolPlaces, size: int, leaves: int, comes: int) -> bool:
+        """Whether the disk of an OSD has room for so much of a pool that goes there from another."""
+        return self.rooms is None or self.rooms.lets(own, size, leaves, comes)
 
     def groups_now(self) -> Spread:
         """What OSDs have in groups."""
@@ -141,6 +162,7 @@ class LastPass:
         """Whether the pass goes on once no more can be taken from the OSDs above their shares: with groups less even
         than they were, and then for those that stay far above their shares.
         """
+        self.limits.clear()
         if self.is_even:
             self.is_even, self.gauges = False, []
             return True
@@ -185,42 +207,70 @@ class LastPass:
         beside = [osd for osd in self.ranked if osd in shares and block is not None and block.is_beside(full, osd)]
         return [osd for osd in beside if self.full.ratio(osd) < self.full.ratio(full)]
 
+    def beside(self, own: PoolPlaces, osd: int) -> frozenset[int]:
+        """The OSDs in place of which the rule of a pool might have chosen an OSD and which take groups, failure domains
+        aside. What is found is kept: it is the same for pools with the same shares.
+        """
+        key, block, laid = (own.number, osd), own.block_of(osd), self.laid[own.number]
+        if key not in self.kept_beside:
+            found = frozenset[int]()
+            if block is not None and osd in laid.shares:
+                alike = id(block), id(laid.shares), block.beside[osd]
+                if alike not in self.alike:
+                    there = (other for other in laid.shares if other not in laid.closed)
+                    self.alike[alike] = frozenset(other for other in there if block.is_beside(osd, other))
+                found = self.alike[alike]
+            self.kept_beside[key] = found
+        return self.kept_beside[key]
+
     def near(self, own: PoolPlaces, full: int, few: int) -> list[int]:
-        """The emptiest OSDs to which groups of a pool may go from an OSD."""
-        block, ratio, shares = own.block_of(full), self.full.ratio(full), self.laid[own.number].shares
-        leaving = self.leaving(own, full)
-        if block is None or full not in shares or not leaving:
+        """The emptiest OSDs to which groups of a pool may go from an OSD. What is found is kept until something
+        moves.
+        """
+        key = own.number, full, few
+        if key not in self.kept_near:
+            self.kept_near[key] = self.nearest(own, full, few)
+        return self.kept_near[key]
+
+    def nearest(self, own: PoolPlaces, full: int, few: int) -> list[int]:
+        """The same, looked for."""
+        block, ratio, beside = own.block_of(full), self.full.ratio(full), self.beside(own, full)
+        if block is None or not beside or not self.leaving(own, full):
             return []
         closed, domains = self.closed(own, full), block.domains
-        closed_to = self.laid[own.number].closed
-        there = (osd for osd in self.ranked if osd in shares and osd not in closed_to and block.is_beside(full, osd))
-        return [osd for osd in islice(there, few) if domains[osd] not in closed and self.full.ratio(osd) < ratio]
+        there = islice((osd for osd in self.ranked if osd in beside), few)
+        return [osd for osd in there if domains[osd] not in closed and self.full.ratio(osd) < ratio]
 
     def ways(self, full: int, few: int, is_whole: bool) -> list[Way]:
         """The moves from an OSD by which something is gained, the best first: all, or those that gain more than any of
         a pool which was passed over, as its places are too small for the best move.
         """
-        found, limits = list[Way](), dict[int, Limit]()
+        found = list[Way]()
         best, floor, rise = 0.0, 0.0, 2 * (self.full.ratio(full) - self.full.ratio(self.ranked[0]))
-        there = [(own, [size for size, _ in own.by_size(full)]) for own in self.movable if own.on.get(full)]
+        there = [(own, own.sizes_on(full)) for own in self.movable if own.on.get(full)]
         for own, sizes in sorted(there, key=lambda entry: -entry[1][0]):
             if not is_whole and sizes[0] * rise < best:
                 floor = max(floor, sizes[0] * rise)
                 continue
             for osd in self.near(own, full, few):
                 if self.keeps(own.number, full, osd) and self.keeps_all(full, osd):
-                    limit = limits.setdefault(osd, Limit(partial(self.stays_even, full, osd, 1)))
-                    found += [
-                        (-self.full.gain(full, osd, size), own.number, osd, size) for size in sizes if limit.lets(size)
-                    ]
-            best = max(best, -min(found, default=(0.0,))[0])
+                    more = self.ways_to(own, sizes, full, osd)
+                    best = max([best, *(-way[0] for way in more)])
+                    found += more
         return sorted(way for way in found if way[0] < -floor)
+
+    def ways_to(self, own: PoolPlaces, sizes: list[int], full: int, osd: int) -> list[Way]:
+        """The moves of a pool from an OSD to another by which something is gained."""
+        limit, gain = self.limit(full, osd, 1), self.full.gain
+        gains = ((gain(full, osd, size), size) for size in sizes)
+        ways = ((-gained, own.number, osd, size) for gained, size in gains if gained > 0 and limit.lets(size))
+        return [way for way in ways if self.lets(own, way[3], full, osd)]
 
     def exchanges(self, full: int) -> list[Exchange]:
         """The best exchanges between an OSD and others by which something is gained, in their order."""
         found, going = BestExchanges(TRIED), self.going_from(full)
         for osd in (osd for osd in self.ranked if osd in going):
-            pair = OsdPair(self.full, full, osd, Limit(partial(self.stays_even, full, osd, 0)))
+            pair = OsdPair(self.full, full, osd, self.limit(full, osd, 0))
             if not found.is_beaten(pair.gain(pair.best) * MORE):
                 self.exchange(found, pair, going[osd])
         return found.found
@@ -229,10 +279,34 @@ class LastPass:
         """The pools of which something may go from an OSD, by the OSDs to which it may."""
         found: dict[int, list[Going]] = {}
         for own in self.movable:
-            sizes = [size for size, _ in own.by_size(full)] if own.on.get(full) else []
-            for osd in self.near(own, full, FEW) if sizes else []:
-                found.setdefault(osd, []).append((own.number, sizes))
+            if own.on.get(full):
+                for osd in self.near(own, full, FEW):
+                    sizes = self.fitting(own, own.sizes_on(full), full, osd)
+                    if sizes:
+                        found.setdefault(osd, []).append((own.number, sizes))
         return found
+
+    def fitting(self, own: PoolPlaces, sizes: list[int], leaves: int, comes: int) -> list[int]:
+        """Those of some sizes for which the disk of an OSD has room where they go there from another."""
+        if self.rooms is None:
+            return sizes
+        found = [size for size in sizes if self.rooms.may_go(own, size, leaves, comes)]
+        self.is_unfit |= len(found) < len(sizes)
+        return found
+
+    def note_exchanges(self, full: int) -> None:
+        """Notes whether exchanges are left for the sake of a disk, as far as nothing else has been noted yet."""
+        rooms = self.rooms
+        if rooms is None or rooms.has_stopped or not self.is_unfit:
+            return
+        self.rooms = None
+        ways = self.exchanges(full)
+        self.rooms = rooms
+        rooms.has_stopped = any(
+            not rooms.may_go(self.pools[number], size, full, osd)
+            or not rooms.may_go(self.pools[other], less, osd, full)
+            for _, number, osd, size, other, less in ways
+        )
 
     def exchange(self, found: BestExchanges, pair: OsdPair, going: list[Going]) -> None:
         """Puts the exchanges between two OSDs to those that are found: a pool by which it gets farther from its shares
@@ -254,10 +328,9 @@ class LastPass:
         stays near its shares by that.
         """
         for own in self.movable:
-            block, shares, closed = own.block_of(osd), self.laid[own.number].shares, self.laid[own.number].closed
-            if own.on.get(osd) and block is not None and full in shares and osd in shares and full not in closed:
-                if block.is_beside(osd, full):
-                    sizes = sorted(size for size, _ in own.by_size(osd))
+            if own.on.get(osd) and full in self.beside(own, osd):
+                sizes = self.fitting(own, own.sizes_on(osd), osd, full)
+                if sizes:
                     yield own.number, sizes, self.keeps(own.number, osd, full)
 
     # What goes
@@ -273,6 +346,9 @@ class LastPass:
             for group, taken in self.leaving(own, leaves).items()
             if own.sizes[group] == size and domain not in taken and (own.number, group, leaves, comes) not in shut
         )
+        if self.rooms is not None:
+            fits = partial(self.rooms.may_come, own, leaves=leaves, comes=comes)
+            groups = (group for group in groups if fits(group))
         return list(islice((group for group in groups if own.would_stay(group, leaves, comes)), GROUPS))
 
     def goes(self, own: PoolPlaces, size: int, leaves: int, comes: int) -> int | None:
@@ -287,18 +363,30 @@ class LastPass:
 
     def count(self, own: PoolPlaces, group: int, leaves: int, comes: int) -> None:
         """Counts a group where it has gone."""
-        counts, totals = self.laid[own.number].counts, own.live.totals
-        self.kept.clear()
-        self.kept_closed.clear()
+        counts, totals, over = self.laid[own.number].counts, own.live.totals, self.over[own.number]
+        self.forget(own, {leaves, comes, *own.sets[group]})
+        if self.rooms is not None:
+            self.rooms.count(own, group, leaves, comes)
         self.full.move(leaves, comes, own.sizes[group])
         for osd, more in ((leaves, -1), (comes, 1)):
             counts[osd] = counts.get(osd, 0) + more
             totals[osd] = totals.get(osd, 0) + more
             self.above[osd] += more * GROUP_PARTS
+            if osd in over:
+                over[osd] += more * GROUP_PARTS
         for gauge, own_size in zip(self.gauges, (1, own.sizes[group] / BYTE_PARTS)):
             gauge.move(leaves, comes, own_size)
         self.shut = {entry for entry in self.shut if entry[:2] != (own.number, group)}
         self.moves.append(own.name(group))
+
+    def forget(self, own: PoolPlaces, osds: Iterable[int | None]) -> None:
+        """Forgets what is kept and may be otherwise where a group of a pool has moved, which lies or lay on OSDs."""
+        self.kept_near.clear()
+        self.limits.clear()
+        for osd in osds:
+            if osd is not None:
+                self.kept.pop((own.number, osd), None)
+                self.kept_closed.pop((own.number, osd), None)
 
     def by_move(self, full: int, few: int) -> bool:
         """Whether something has gone from an OSD by one move."""
@@ -310,6 +398,7 @@ class LastPass:
 
     def by_exchange(self, full: int) -> bool:
         """Whether something has gone from an OSD as two groups have changed places."""
+        self.is_unfit = False
         for _, number, osd, size, other, less in self.exchanges(full):
             own, back = self.pools[number], self.pools[other]
             gone = self.goes(own, size, full, osd) if self.free(back, less, osd, full) else None
@@ -320,6 +409,7 @@ class LastPass:
             take_back(own, gone)
             self.count(own, gone, osd, full)
             del self.moves[-2:]
+        self.note_exchanges(full)
         return False
 
     def fullest(self, stuck: set[int]) -> int | None:

@@ -31,7 +31,7 @@ def pool_spread(counts: dict[int, int], shares: dict[int, float]) -> PoolSpreadP
     return {
         "least": min(own, default=0),
         "greatest": max(own, default=0),
-        "farthest": max(map(abs, away), default=0.0),
+        "farthest": max(max(away), -min(away)) if away else 0.0,
         "deviation": math.sqrt(sum(map(mul, away, away)) / len(away)) if away else 0.0,
     }
 

@@ -106,9 +106,10 @@ class Gauge(Squares):
         """Whether so much may go from an OSD to another: the one that gets it is then no fuller than the fullest was,
         and the sum of squares is no greater than before, or no greater than it is.
         """
+        if self.worst_of([comes], size) > self.fullest:
+            return False
         rise = self.rise([(leaves, -size), (comes, size)])
-        is_even = rise <= 0 or self.squares + rise <= self.before * (1 + ROUNDING)
-        return is_even and self.worst_of([comes], size) <= self.fullest
+        return rise <= 0 or self.squares + rise <= self.before * (1 + ROUNDING)
 
 
 class Mender:

@@ -2,6 +2,7 @@
 
 from __future__ import annotations
 
+from collections import Counter
 from collections.abc import Callable
 from contextlib import ExitStack
 from dataclasses import dataclass, replace
@@ -30,15 +31,17 @@ from .cycles import without_cycles
 from .gains import command_count, gains
 from .hindrances import hindrances_by_mending
 from .json_forms import ClusterParts, DataParts, HindranceParts, PlanParts
+from .last_pass import NEAR
 from .least import least_of
 from .measures import Measures, counts_after, pool_spread
 from .mend import mended
 from .pair_plans import PairPlanner
 from .parts import even_parts, first_steps, measure_of_steps, order_of_steps, ordered_parts
 from .pool_plans import PoolPlan, pool_plans
+from .rooms import DATA_FIRST, FITTED, Rooms, SCHEME_FIRST
 from .rounds import Live, MOST_MOVES, Planner, SMALL_CLUSTER, left_out
 from .spare import spared
-from .step_order import limited
+from .step_order import limited, parts_in_order
 from .steps import PlanStep, appended_pairs, batches, steps_by_pool, steps_of
 from .worth import Worth, until, worth_of
 
@@ -150,13 +153,21 @@ def alone_steps(lives: list[Live], wanted: list[int], wish: Wish) -> PlannedStep
 
 
 def cluster_steps(
-    lives: list[Live], wanted: list[int], wish: Wish, aims: ByteAims | None, tell: Callable[[str], None]
+    lives: list[Live],
+    wanted: list[int],
+    wish: Wish,
+    aims: ByteAims | None,
+    rooms: Rooms | None,
+    tell: Callable[[str], None],
 ) -> PlannedSteps:
-    """Plans pools for the sake of the whole cluster, by data where it is known what all of them hold."""
+    """Plans pools for the sake of the whole cluster, by data where it is known what all of them hold, and no more to
+    any disk than it has room for.
+    """
     planner, passed = Planner(lives, wanted, wish.data, wish.half()), Passed([], [], {})
     planner.by_pairs = PairPlanner()
     if aims is not None and aims.is_whole:
-        passed = planned_by_data(planner, aims, wish.is_room, wish.most if wish.most < ALL else None, tell)
+        most = wish.most if wish.most < ALL else None
+        passed = planned_by_data(planner, aims, wish.is_room, most, rooms, tell)
     else:
         planner.play(tell)
     for number in {group_key(group)[0] for group in passed.moved}:
@@ -166,7 +177,8 @@ def cluster_steps(
         kept, lost = steps_in(live)
         left.update(lost)
         steps += kept
-    is_at_rest = planner.is_at_rest and not (left or passed.moved or planner.goes_on())
+    has_unfit = rooms is not None and bool(rooms.by_scheme)
+    is_at_rest = planner.is_at_rest and not (left or passed.moved or has_unfit or planner.goes_on())
     return PlannedSteps(planner.refusals, left, {}, steps, frozenset(passed.first), passed.stays, is_at_rest)
 
 
@@ -284,10 +296,14 @@ class Pass:
         return not self.steps or self.made.is_at_rest and len(self.steps) == len(self.made.steps)
 
 
-def passed_over(lives: list[Live], wanted: list[int], wish: Wish, tell: Callable[[str], None]) -> Pass:
+def passed_over(
+    lives: list[Live], wanted: list[int], wish: Wish, rooms: Rooms | None, tell: Callable[[str], None]
+) -> Pass:
     """Plans pools of a cluster once; nothing where nothing is gained."""
     aims = None if wish.data is None else ByteAims(lives, wish.data)
-    made = alone_steps(lives, wanted, wish) if wish.is_alone else cluster_steps(lives, wanted, wish, aims, tell)
+    if rooms is not None and aims is not None:
+        rooms.begin(lives, aims)
+    made = alone_steps(lives, wanted, wish) if wish.is_alone else cluster_steps(lives, wanted, wish, aims, rooms, tell)
     measures = Measures(lives, wish.data, aims)
     kept = kept_steps(measures, made, wish)
     taken_out = without(made.steps, kept)
@@ -304,26 +320,82 @@ def most_plans(lives: list[Live], wanted: list[int]) -> int:
     return MOST_PLANS if len(wanted) * len(osds) <= SMALL_CLUSTER else FEW_PLANS
 
 
-def course_of(
-    lives: list[Live], wanted: list[int], wish: Wish, tell: Callable[[str], None]
-) -> tuple[list[Pass], list[PlanStep], int]:
-    """Plans pools of a cluster until a plan over what has been made is empty: the plans, what all of them make, and how
-    many commands a further one has that is not made.
+def fitted(own: Pass, nearfull: float) -> Pass:
+    """A plan without the steps that would fill disks too far in one part, and without those that leave the cluster less
+    even beside these.
     """
-    first, found, most = lives, [passed_over(lives, wanted, wish, tell)], most_plans(lives, wanted)
+    order = order_of_steps(own.measures, own.steps, own.made.first, nearfull)
+    kept = [step for part in parts_in_order(order, ALL, True) for step in part]
+    return replace(own, steps=mended(own.measures.gauges(), kept) if order.left else own.steps)
+
+
+def first_pass(
+    lives: list[Live], wanted: list[int], wish: Wish, rooms: Rooms | None, tell: Callable[[str], None]
+) -> Pass:
+    """The first plan of a course; where a whole plan is to come first, what of it fits."""
+    if rooms is not None and rooms.way == FITTED:
+        return fitted(passed_over(lives, wanted, wish, None, tell), wish.nearfull)
+    return passed_over(lives, wanted, wish, rooms, tell)
+
+
+@dataclass(frozen=True, **SLOTS)
+class PlanCourse:
+    """Plans over one another until one is empty: these, what all of them make, how many commands a further one has that
+    is not made, and how much could come to each disk.
+    """
+
+    passes: list[Pass]
+    steps: list[PlanStep]
+    rest: int
+    rooms: Rooms | None
+
+    def is_stopped(self) -> bool:
+        """Whether steps are left for the sake of nearly full OSDs."""
+        return self.rooms is not None and self.rooms.has_stopped
+
+    def fullest(self) -> float:
+        """How full all leave the fullest OSD by data, as it is told, where that is above what is near its share."""
+        used = self.passes[0].measures.bytes(self.steps)
+        return round(max(1 + NEAR, 0.0 if used is None else used.fullest()), 2)
+
+
+def course_of(
+    lives: list[Live], wanted: list[int], wish: Wish, rooms: Rooms | None, tell: Callable[[str], None]
+) -> PlanCourse:
+    """Plans pools of a cluster until a plan over what has been made is empty."""
+    first, found, most = lives, [first_pass(lives, wanted, wish, rooms, tell)], most_plans(lives, wanted)
     is_cut = (wish.is_alone or wish.data is not None) and wish.most < (MOST_MOVES if wish.is_alone else ALL)
     while not (is_cut or found[-1].is_last()) and len(found) <= most:
         lives = [after(live, found[-1].steps) for live in lives]
         if wish.data is not None:
             wish = replace(wish, data=moved_data(wish.data, found[-1].measures.sizes, found[-1].steps))
-        found.append(passed_over(lives, wanted, wish, tell))
+        found.append(passed_over(lives, wanted, wish, rooms, tell))
     rest = command_count(found[-1].steps) if len(found) > most else 0
     applied = [own for own in found if own.steps][: most if rest else None]
     if len(applied) < 2:
-        return found[:1], found[0].steps, rest
+        return PlanCourse(found[:1], found[0].steps, rest, rooms)
     if found[-1] is applied[-1]:
         lives = [after(live, found[-1].steps) for live in lives]
-    return applied, [step for one, other in zip(first, lives) for step in steps_between(one, other)], rest
+    steps = [step for one, other in zip(first, lives) for step in steps_between(one, other)]
+    return PlanCourse(applied, steps, rest, rooms)
+
+
+def best_course(lives: list[Live], wanted: list[int], wish: Wish, tell: Callable[[str], None]) -> PlanCourse:
+    """The same within what may come to disks in one part; no parts are asked for then, behind each of which there is
+    other room. Where steps are left for the sake of disks, and an OSD stays above what is near its share, the way is
+    taken by which the fullest gets least full, in a cluster of not too many pools and OSDs.
+    """
+    has_disks = wish.data is not None and bool(wish.data.disks) and wish.batch == ALL and not wish.is_alone
+    aims = ByteAims(lives, wish.data) if wish.data is not None and has_disks else None
+    if aims is None or not aims.disks:
+        return course_of(lives, wanted, wish, None, tell)
+    found = [course_of(lives, wanted, wish, Rooms(lives, aims, wish.nearfull, SCHEME_FIRST), tell)]
+    is_one = not found[0].is_stopped() or wish.most < ALL or most_plans(lives, wanted) < MOST_PLANS
+    for way in () if is_one else (DATA_FIRST, FITTED):
+        if min(map(PlanCourse.fullest, found)) > 1 + NEAR:
+            again = [after(live, []) for live in lives]
+            found.append(course_of(again, wanted, wish, Rooms(again, aims, wish.nearfull, way), tell))
+    return min(found, key=PlanCourse.fullest)
 
 
 def as_one(passes: list[Pass], steps: list[PlanStep]) -> PlannedSteps:
@@ -338,18 +410,25 @@ def as_one(passes: list[Pass], steps: list[PlanStep]) -> PlannedSteps:
     return PlannedSteps(made.refusals, left, plans, steps, first, passes[-1].made.stays, True)
 
 
-def later_commands(lives: list[Live], wish: Wish, measures: Measures, steps: list[PlanStep]) -> int:
-    """How many commands a plan has over these steps, where others are left for the sake of nearly full OSDs."""
-    own = [after(live, steps) for live in lives]
-    own_wish = wish if wish.data is None else replace(wish, data=moved_data(wish.data, measures.sizes, steps))
-    return command_count(planned_once(own, own_wish, silent)[0].steps)
+def with_later(lives: list[Live], wish: Wish, measures: Measures, found: Outcome) -> Outcome:
+    """A plan that leaves steps for the sake of nearly full OSDs, with how many commands the plan over it has, once its
+    data has moved. Where it has one part, it is told by how many of that plan's steps the OSDs get something, and none
+    is stopped where that plan is empty.
+    """
+    if not found.steps:
+        return found
+    own = [after(live, found.steps) for live in lives]
+    own_wish = wish if wish.data is None else replace(wish, data=moved_data(wish.data, measures.sizes, found.steps))
+    later = planned_once(own, own_wish, silent)[0].steps
+    come = Counter(osd for step in later for osd in step.places_come() if osd in found.stopped)
+    return replace(found, rest=command_count(later), stopped=dict(come) if wish.batch == ALL else found.stopped)
 
 
 def planned(lives: list[Live], wish: Wish, tell: Callable[[str], None] = silent) -> Outcome:
     """Plans pools of a cluster, and tells how far it is meanwhile."""
     found, measures, is_stopped = planned_once(lives, wish, tell)
     if is_stopped and wish.most == ALL and wish.until is None:
-        return replace(found, rest=later_commands(lives, wish, measures, found.steps))
+        return with_later(lives, wish, measures, found)
     return found
 
 
@@ -360,8 +439,9 @@ def planned_once(lives: list[Live], wish: Wish, tell: Callable[[str], None]) -> 
     wanted = wanted_of(lives, wish)
     for live in lives:
         live.is_by_weight = wish.is_by_weight
-    passes, steps, rest = course_of(lives, wanted, wish, tell)
-    measures, steps = passes[0].measures, sorted(steps, key=lambda step: group_key(step.group))
+    course = best_course(lives, wanted, wish, tell)
+    passes, rooms, measures = course.passes, course.rooms, course.passes[0].measures
+    steps = sorted(course.steps, key=lambda step: group_key(step.group))
     made = as_one(passes, steps)
     taken_out = sorted({*passes[-1].taken_out} - {step.group for step in steps}, key=group_key)
     least = least_of(measures, measures.pools.keys() - set(wanted) | made.refusals.keys())
@@ -374,9 +454,10 @@ def planned_once(lives: list[Live], wish: Wish, tell: Callable[[str], None]) -> 
     measure = measure_of_steps(measures, steps, wish.nearfull)
     parts = even_parts(measures, order, parts, wish.batch) if order.left else parts
     parts = first_steps(parts, wish.most) if wish.until is None else until(parts, measure, wish.until)
-    found = outcome_of(measures, wanted, made, parts, taken_out, order.stopped())
-    found = replace(found, rest=rest, measure=measure, worth=worth_of(measure, found.steps), least=least)
-    return found, measures, bool(order.left)
+    stopped = {**({} if rooms is None else rooms.stopped()), **order.stopped()}
+    found = outcome_of(measures, wanted, made, parts, taken_out, stopped)
+    found = replace(found, rest=course.rest, measure=measure, worth=worth_of(measure, found.steps), least=least)
+    return found, measures, bool(order.left) or course.is_stopped()
 
 
 def pool_parts(

@@ -26,6 +26,8 @@ class PoolPlaces:
         self.sizes = [0] * len(self.sets)
         self.on: dict[int, set[int]] = {}
         self.fixed: set[int] = set()
+        self.kept_blocks: dict[int, Block | None] = {}
+        self.kept_sizes: dict[int, list[int]] = {}
         for group, places in enumerate(self.sets):
             for osd in set(places):
                 if osd is not None:
@@ -36,8 +38,10 @@ class PoolPlaces:
         return f"{self.number}.{group:x}"
 
     def block_of(self, osd: int) -> Block | None:
-        """The block of the rule that chooses an OSD; None where none does."""
-        return next((block for block in self.blocks if osd in block.osds), None)
+        """The block of the rule that chooses an OSD; None where none does. What is found is kept."""
+        if osd not in self.kept_blocks:
+            self.kept_blocks[osd] = next((block for block in self.blocks if osd in block.osds), None)
+        return self.kept_blocks[osd]
 
     def leaving(self, osd: int) -> dict[int, set[int]]:
         """The groups that may go from an OSD, each with the failure domains to which it may not go."""
@@ -48,12 +52,13 @@ class PoolPlaces:
         free = (group for group in groups if len(self.pairs[group]) < most and self.sets[group].count(osd) == 1)
         return {group: block.taken(self.sets[group], osd) for group in free}
 
-    def by_size(self, osd: int) -> list[tuple[int, list[int]]]:
-        """The groups that an OSD has, by what a place of them holds; those that hold most first."""
-        found: dict[int, list[int]] = {}
-        for group in sorted(self.on.get(osd, ())):
-            found.setdefault(self.sizes[group], []).append(group)
-        return sorted(found.items(), reverse=True)
+    def sizes_on(self, osd: int) -> list[int]:
+        """What places of the groups hold that an OSD has, each size once, the greatest first. What is found is kept
+        until the OSD has other groups.
+        """
+        if osd not in self.kept_sizes:
+            self.kept_sizes[osd] = sorted({self.sizes[group] for group in self.on.get(osd, ())}, reverse=True)
+        return self.kept_sizes[osd]
 
     def held(self) -> dict[int, int]:
         """What each OSD has of the pool."""
@@ -87,14 +92,18 @@ class PoolPlaces:
 
     def put(self, group: int, leaves: int, comes: int) -> None:
         """A group has gone from an OSD to another, by one more pair."""
-        self.sets[group] = self.with_move(group, leaves, comes)
         self.pairs[group].append([leaves, comes])
-        self.on[leaves].discard(group)
-        self.on.setdefault(comes, set()).add(group)
+        self.lay(group, leaves, comes)
 
     def take_back(self, group: int) -> None:
         """The last pair of a group goes again."""
         leaves, comes = self.pairs[group].pop()
-        self.sets[group] = self.with_move(group, comes, leaves)
-        self.on[comes].discard(group)
-        self.on.setdefault(leaves, set()).add(group)
+        self.lay(group, comes, leaves)
+
+    def lay(self, group: int, leaves: int, comes: int) -> None:
+        """A group lies on an OSD in place of another."""
+        self.sets[group] = self.with_move(group, leaves, comes)
+        self.on[leaves].discard(group)
+        self.on.setdefault(comes, set()).add(group)
+        for osd in (leaves, comes):
+            self.kept_sizes.pop(osd, None)

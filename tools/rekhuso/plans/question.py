@@ -11,10 +11,10 @@ from ..cluster.aftermath import Aftermath, Arrival, Command, NewMap, StateChange
 from ..cluster.cleanup import excepted_groups, reason_words
 from ..cluster.conversion import monitor_of
 from ..cluster.difference import moved_parts
-from ..cluster.flows import fewer_in, flows, fullest_by_count, fullest_by_share, short_in
+from ..cluster.flows import fewer_in, flows, fullest_by_count, fullest_by_share, short_in, thin_sets
 from ..cluster.map_dumps import cluster_of_map
 from ..cluster.misplaced import check_misplaced, misplaced_of
-from ..cluster.moving import erasure_pools, with_split_groups
+from ..cluster.moving import erasure_pools, other_sets, with_split_groups
 from ..cluster.outage import check_outage, outage_of
 from ..cluster.primaries import NamedPrimaries, rested_words
 from ..cluster.unrest import told_unrest, unrest_lines
@@ -25,9 +25,7 @@ from ..program.map_forms import GROUPS, POOLS, change_form, key_of, parts_of
 from ..program.maps import Change, Entry, Map, Program, group_key, written
 from ..values import SLOTS
 from ..words import some
-from .after_plan import after_steps
 from .json_forms import FlowParts
-from .plan import DEFAULT_WISH, misplaced_in, opened, outage_in, planned
 
 
 @dataclass(frozen=True, **SLOTS)
@@ -64,8 +62,11 @@ class Balance:
 
 def balanced_sets(whole: ClusterView, program: Program, balance: Balance) -> ClusterSets:
     """The same once the cluster is balanced by the plan that `plan` makes. A fault where a weight set is in force, or
-    amid an outage unless it is balanced anyway.
+    amid an outage unless it is balanced anyway. What plans comes in here: it takes long, and few ask for it.
     """
+    from .after_plan import after_steps
+    from .plan import DEFAULT_WISH, misplaced_in, opened, outage_in, planned
+
     with ExitStack() as stack:
         lives = opened(stack, whole, program, balance.is_anyway)
         check_outage(outage_in(lives), balance.is_anyway)
@@ -189,14 +190,15 @@ class Question:
         ups, rested = self.as_in_ceph(whole, answers), self.primaries.rested(answers.primaries)
         sizes = {pool["id"]: pool["size"] for pool in pools}
         least = {pool["pool"]: pool["min_size"] for pool in course.cluster.pools if "min_size" in pool}
-        short, shares = short_in(ups, sizes), whole.shares(ups)
-        moved, total = flows(before, ups, erasure), moved_parts(before, ups, erasure)
+        thin = thin_sets(ups, max([*sizes.values(), *least.values()], default=0))
+        short, shares, other = short_in(thin, sizes), whole.shares(ups), other_sets(before, ups)
+        moved, total = flows(other, erasure), moved_parts(other, erasure)
         return {
             "groups": total["groups"],
             "places": total["places"],
             "short": short,
             "short_anew": fewer_in(short, before, ups, sizes),
-            "below_min_size": fewer_in(short_in(ups, least), before, ups, least),
+            "below_min_size": fewer_in(short_in(thin, least), before, ups, least),
             "fullest_by_count": fullest_by_count(shares.counts),
             "fullest_by_share": fullest_by_share(shares),
             "exceptions": {

@@ -15,6 +15,8 @@ PLACES, PRIMARY = re.compile(r"\[(?:(?:none|[0-9]+)(?:,(?:none|[0-9]+))*)?\]"), 
 SETS = re.compile(f"(?: {PLACES.pattern})*")
 SET = re.compile(f"{PLACES.pattern} (?:{PRIMARY.pattern})")
 POOL = re.compile(f"{PLACES.pattern}{SETS.pattern}")
+# What is left of a set without its digits.
+COMMAS = re.compile(rb"\[,*\]")
 FORMS = {
     "up": SET,
     "ups": POOL,
@@ -45,8 +47,9 @@ class Agreement:
         """A fault where an answer is none of its line."""
         word, _, asked = line.partition(" ")
         start = f"{word} {self.epoch} {asked} "
-        if answer.startswith(start) and word in FORMS and FORMS[word].fullmatch(answer, len(start)):
-            return
+        if answer.startswith(start) and word in FORMS:
+            if word == "ups" and are_whole_sets(answer[len(start) :]) or FORMS[word].fullmatch(answer, len(start)):
+                return
         if word in FORMS and not answer.startswith("err "):
             self.check_look(word, asked, answer)
         elif answer.startswith(("ok ", "moved ")):
@@ -75,6 +78,15 @@ def are_sets_at(epoch: str, lines: Sequence[str], answers: Sequence[str]) -> boo
     )
     is_set = is_its and SETS.fullmatch(" ".join(["", *words[3::5]])) is not None
     return is_set and all(map(PRIMARY.fullmatch, set(words[4::5])))
+
+
+def are_whole_sets(text: str) -> bool:
+    """Whether a text surely has the form of sets, of which none has an empty place: most have, and are long. So it is
+    tried without its digits, of which none stands outside a set and some at each place.
+    """
+    sets = text.encode().translate(None, b"0123456789").split(b" ")
+    is_full = text.startswith("[") and text.endswith("]") and text.count("] [") == len(sets) - 1
+    return is_full and all(map(COMMAS.fullmatch, set(sets))) and not any(pair in text for pair in ("[,", ",,", ",]"))
 
 
 def number_in(word: str) -> int | None:

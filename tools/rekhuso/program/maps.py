@@ -130,9 +130,21 @@ def objects_at(value: object, key: str) -> list[dict[str, Any]]:
     return [own for own in entries if isinstance(own, dict)] if isinstance(entries, list) else []
 
 
+@lru_cache(maxsize=None)
+def numbers_written(count: int) -> tuple[str, ...]:
+    """So many numbers from 0 on as groups have them in their names."""
+    return tuple([f"{number:x}" for number in range(count)])
+
+
+@lru_cache(maxsize=None)
+def group_names(pool: int, count: int) -> tuple[str, ...]:
+    """The names of so many groups of a pool: one object for each, which is asked for again and again."""
+    return tuple(map(f"{pool}.".__add__, numbers_written(count)))
+
+
 def groups_in(pool: Pool) -> list[str]:
     """All groups of a pool."""
-    return [f"{pool['id']}.{number:x}" for number in range(pool["pg_num"])]
+    return list(group_names(pool["id"], pool["pg_num"]))
 
 
 def groups_of(value: Map) -> list[str]:

@@ -91,7 +91,7 @@ class Session:
     def raw(self, lines: list[str]) -> list[str]:
         """The answer of each line, refusals among them. The lines go in beside the answers that come out."""
         self._check_open()
-        text = "".join(line + "\n" for line in lines).encode("utf-8", "surrogateescape")
+        text = "\n".join([*lines, ""]).encode("utf-8", "surrogateescape")
         sender = threading.Thread(target=self._send, args=(text,), daemon=True)
         sender.start()
         wanted = sum(map(bool, text.split(b"\n")))

@@ -15,12 +15,12 @@ app_simple = refl
 app_free : is_simple_and_free store_app ≡ true
 app_free = refl
 
-pub returns-in-Ok-clause-read : goal.returns-in-Ok-clause-read
-returns-in-Ok-clause-read c =
+pub returns-in-Ok : goal.returns-in-Ok
+returns-in-Ok c =
     taken_line AreStoreFound store_app (map string_bytes c.args.words.now) (app_of c.in_ok-command.field-0) (rows_of (found_of c.in-Ok.matches)) c.options_in.result
-    app_simple app_free c.in_ok-command.ensures (λ simple. (c.in-Ok.ensures.matches simple).0) c.in-Ok.ensures.kinds c.options_in.ensures.taken
+    app_simple app_free c.in_ok-command.ensures (λ simple. (c.in-Ok.ensures.matches simple).0) c.in-Ok.ensures.kinds c.options_in.ensures
 
-pub returns-in-Err-clause-read : goal.returns-in-Err-clause-read
-returns-in-Err-clause-read c =
+pub returns-in-Err : goal.returns-in-Err
+returns-in-Err c =
     refused_line AreStoreFound store_app (map string_bytes c.args.words.now) (app_of c.in_ok-command.field-0) (kind_of c.in-Err.error) c.line_error.result
     app_free c.in_ok-command.ensures c.in-Err.ensures.kinds c.line_error.ensures

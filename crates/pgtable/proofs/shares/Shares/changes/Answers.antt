@@ -5,7 +5,7 @@ use Rattle.pgtable.specs.After.{map_after}
 use Rattle.pgtable.specs.Patches.{with_sets}
 use Rattle.pgtable.specs.Rooms.{len_of, start_of}
 use Rattle.pgtable.specs.Tables.{RunsMore}
-use Rattle.pgtable.proofs.Parts.{on_ok, if_ok, parts_ran}
+use Rattle.pgtable.proofs.Parting.{on_ok, if_ok, parts_ran}
 use Rattle.pgtable.proofs.Sharing.{share_ran}
 use Rattle.pgtable.proofs.shares.Shares.changes.Goals as goal
 

@@ -5,7 +5,7 @@ use Rattle.pgtable.specs.declared.rooms.Room.{Room}
 use Rattle.pgtable.specs.After.{map_after}
 use Rattle.pgtable.specs.Patches.{with_sets}
 use Rattle.pgtable.specs.Shares.{share_of}
-use Rattle.pgtable.proofs.Parts.{some_at, one_more}
+use Rattle.pgtable.proofs.Parting.{some_at, one_more}
 use Rattle.pgtable.proofs.Sharing.{next_share}
 use Rattle.pgtable.proofs.shares.Shares.join.Goals as goal
 

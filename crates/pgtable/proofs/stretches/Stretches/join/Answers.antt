@@ -4,7 +4,7 @@ use Rattle.std.proofs.Math.Seq.{map-set_same}
 use Rattle.pgtable.specs.declared.rooms.Room.{Room}
 use Rattle.pgtable.specs.Stretches.{stretch_of}
 use Rattle.pgtable.specs.Tables.{pool_table}
-use Rattle.pgtable.proofs.Parts.{some_at, one_more}
+use Rattle.pgtable.proofs.Parting.{some_at, one_more}
 use Rattle.pgtable.proofs.Stretching.{next_stretch}
 use Rattle.pgtable.proofs.stretches.Stretches.join.Goals as goal
 

@@ -4,7 +4,7 @@ use Rattle.maptypes.specs.Pools.{total_groups}
 use Rattle.pgtable.specs.declared.rooms.Room.{Room}
 use Rattle.pgtable.specs.Stretches.{first_of}
 use Rattle.pgtable.specs.Tables.{RunsMore, pool_table}
-use Rattle.pgtable.proofs.Parts.{on_ok, if_ok, rooms_ran}
+use Rattle.pgtable.proofs.Parting.{on_ok, if_ok, rooms_ran}
 use Rattle.pgtable.proofs.Stretching.{first_past, groups_before, groups_none, groups_rise, stretch_ran}
 use Rattle.pgtable.proofs.stretches.Stretches.tables.Goals as goal
 

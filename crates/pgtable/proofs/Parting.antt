@@ -1,17 +1,17 @@
 -- Parts of a pool in rooms: side by side they are its groups, and their runs add up to its.
-use Rattle.std.proofs.Common.{◌≡◌, ◌∙◌, ◌++◌, refl, sym, ap, subst, inl, inr, ℕ, suc, ◌+◌, ◌-◌, ◌<◌, ◌≤◌, ◌^◌, min, List, [], ◌∷◌, length, map, get_or, Option, Some, None, Result, Ok, Err, IfOk, IfSome, IsSome, OnOk, arith}
-use Rattle.std.specs.List.{All, range_with_len}
+use Rattle.std.proofs.Common.{◌≡◌, ◌∙◌, ◌++◌, sym, ap, subst, inl, inr, ℕ, suc, ◌+◌, ◌-◌, ◌<◌, ◌≤◌, ◌^◌, min, List, [], ◌∷◌, length, map, get_or, Option, Some, None, Result, Ok, Err, IfOk, IfSome, IsSome, OnOk, arith}
+use Rattle.std.specs.List.{range_with_len}
 use Rattle.std.proofs.lemmas.Bool.{cases_order, false≢true}
 use Rattle.std.proofs.lemmas.List.{get_or_default, map-append}
-use Rattle.std.proofs.lemmas.List.FromFn.{get_or-map-range_with_len, length-map-range_with_len}
+use Rattle.std.proofs.lemmas.List.FromFn.{length-map-range_with_len}
 use Rattle.std.proofs.lemmas.List.Sums.{sum_by-cons}
 use Rattle.crush.proofs.Rounds.{range_append}
 use Rattle.crush.specs.Run.{Ran}
+use Rattle.grouptable.specs.Sets.{GroupSets}
 use Rattle.maptypes.specs.Pools.{PoolFacts}
 use Rattle.maptypes.specs.Sets.{Places}
-use Rattle.osdmap.specs.Maps.{ClusterMap, HoldsTogether, pool_at}
+use Rattle.osdmap.specs.Maps.{ClusterMap}
 use Rattle.osdmap.specs.Placement.{mapped_set}
-use Rattle.osdmap.proofs.Fitting.{mapped_fits}
 use Rattle.pgtable.specs.Rooms.{start_of, len_of, part_of, IsPart, RunMore}
 use Rattle.pgtable.specs.Tables.{RunsMore}
 use Rattle.pgtable.specs.declared.rooms.Room.{Room}
@@ -61,25 +61,18 @@ joined f a n b is =
 
 module _ (m : ClusterMap) (p : PoolFacts) (k size : ℕ) where
   -- the parts before a room and its part are those before the next one
-  pub next_part : map (mapped_set m p) (range_with_len 0 (start_of k size p.pg_num)) ++ part_of m p k size ≡ map (mapped_set m p) (range_with_len 0 (start_of (k + 1) size p.pg_num))
+  pub next_part : map (mapped_set m p) (range_with_len 0 (start_of k size p.pg_num)) ++ (part_of m p k size).sets ≡ map (mapped_set m p) (range_with_len 0 (start_of (k + 1) size p.pg_num))
   next_part = joined (mapped_set m p) (start_of k size p.pg_num) (len_of k size p.pg_num) (start_of (k + 1) size p.pg_num) (omega (arith, starts_rise k (k + 1) size p.pg_num (omega arith)))
 
-  -- the sets of a part fit into their pool's
-  pub part_fits : HoldsTogether m → pool_at m.pools p.id ≡ Some p → p.pg_num ≤ 65536 → All (λ set. length set ≤ p.size) (part_of m p k size)
-  part_fits holds there few i d inside =
-      let count = length-map-range_with_len (mapped_set m p) (start_of k size p.pg_num) (len_of k size p.pg_num) in
-      let at = get_or-map-range_with_len (mapped_set m p) (start_of k size p.pg_num) (len_of k size p.pg_num) i (start_of k size p.pg_num + i) d (omega (arith, count, inside)) refl in
-      rw at (mapped_fits m p (start_of k size p.pg_num + i) holds there (omega (arith, count, inside, few)))
-
-  -- and with those before them they are no more than it has
-  pub part_few : p.pg_num ≤ 65536 → length (map (mapped_set m p) (range_with_len 0 (start_of k size p.pg_num))) + length (part_of m p k size) ≤ 65536
+  -- its sets and those before them are no more than it has
+  pub part_few : p.pg_num ≤ 65536 → length (map (mapped_set m p) (range_with_len 0 (start_of k size p.pg_num))) + length (part_of m p k size).sets ≤ 65536
   part_few few =
       let count = length-map-range_with_len (mapped_set m p) (start_of k size p.pg_num) (len_of k size p.pg_num) in
       let before = length-map-range_with_len (mapped_set m p) 0 (start_of k size p.pg_num) in
       omega (arith, count, before, few)
 
 -- the part of a room that has made it took a run for each of its groups
-pub part_ran : {X : Type 0} (items : X → List Places) (m : ClusterMap) (p : PoolFacts) (k size : ℕ) (old new : Ran) (made : Option X) → IsSome made → IfSome made (λ x. IsPart m p k size old new (items x)) → RunsMore (len_of k size p.pg_num) old new
+pub part_ran : {X : Type 0} (items : X → GroupSets) (m : ClusterMap) (p : PoolFacts) (k size : ℕ) (old new : Ran) (made : Option X) → IsSome made → IfSome made (λ x. IsPart m p k size old new (items x)) → RunsMore (len_of k size p.pg_num) old new
 part_ran items m p k size old new None some is = absurd (false≢true some)
 part_ran items m p k size old new (Some x) some is = is.runs
 
