@@ -7,6 +7,7 @@ from __future__ import annotations
 import contextlib
 import json
 import threading
+import time
 from collections.abc import Iterator
 from types import SimpleNamespace
 from typing import Any
@@ -16,7 +17,8 @@ from rekhuso import together
 
 from tests.clusters import Json, copied
 
-# How long the monitor gathers where its interval is the long one, and where it is its own, in seconds.
+# How long the monitor gathers behind the last that has come, where its interval is the long one, and where it is its
+# own, in seconds.
 LONG, OWN = 1.2, 0.01
 # The words that make a map.
 WRITES = ("osd set", "osd unset", "osd setcrushmap", "osd pg-upmap", "osd rm-pg-upmap")
@@ -32,7 +34,7 @@ class World:
         self.interval, self.given = "0.5", list[Json]()
         # What is refused, by its words: all that it says, or from which time on.
         self.refused = dict[str, tuple[int, int]]()
-        self.pending, self.lock, self.made = list[Any](), threading.Condition(), 0
+        self.pending, self.lock, self.made, self.came = list[Any](), threading.Condition(), 0, 0.0
         self.thread = threading.Thread(target=self.make_maps, daemon=True)
         self.is_over = False
         self.thread.start()
@@ -53,12 +55,17 @@ class World:
                     return
                 seconds = OWN if self.interval == "0.5" else LONG
                 is_first = self.made == 0
-                self.lock.wait_for(lambda: self.is_over, OWN if is_first else seconds)
+                self.gather(OWN if is_first else seconds)
                 for own in self.pending:
                     own()
                 self.pending, self.made = [], self.made + 1
                 self.dump["epoch"] += 1
                 self.lock.notify_all()
+
+    def gather(self, seconds: float) -> None:
+        """Waits until nothing more has come for some time, however late a busy machine brings what belongs together."""
+        while not self.is_over and (left := self.came + seconds - time.monotonic()) > 0:
+            self.lock.wait_for(lambda: self.is_over, left)
 
     def exceptions(self, group: str) -> Any:
         """The exceptions of a group."""
@@ -125,6 +132,7 @@ class World:
             if not prefix.startswith(WRITES):
                 return 0, json.dumps(self.answer(words)).encode(), ""
             self.pending.append(self.written(words, body))
+            self.came = time.monotonic()
             made = self.made
             self.lock.notify_all()
             self.lock.wait_for(lambda: self.made > made or self.is_over, 30)

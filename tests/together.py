@@ -9,6 +9,7 @@ from __future__ import annotations
 
 import base64
 import hashlib
+import itertools
 import json
 import os
 import pathlib
@@ -19,9 +20,10 @@ import struct
 import subprocess
 import sys
 import tempfile
-import time
 from collections.abc import Callable
+from concurrent.futures import ThreadPoolExecutor
 from typing import Any
+from unittest import mock
 
 from rekhuso import together
 from rekhuso.together import Binary, Stop, crush_sum, given, script_in
@@ -30,6 +32,7 @@ from tests.cases import TOP, Case
 from tests.ceph_monitor import WORST
 from tests.clusters import Json, commands, copied, kept
 from tests.fake_rados import World, joined
+from tests.live_sessions import Lines
 from tests.reef_tools import ReefMonitor, reef_tools
 from tests.tool_cases import StockCase
 
@@ -44,6 +47,23 @@ FSID = "9a1c2f62-6f6e-4d4f-8a53-0f5d2a1f7c11"
 # The system's Python, which has librados where Ceph is there.
 SYSTEM = "/usr/bin/python3"
 SECONDS = 120
+# For how long a monitor gathers, in seconds, so that on a busy machine, too, all that belongs together comes meanwhile.
+WAIT = 10
+# The tool, which waits as long between the pairs and the CRUSH map, and tells each command that it gives.
+TOLD = """
+import os, sys
+sys.path.insert(0, sys.argv[1])
+import together
+
+asked, together.PAUSE, sys.argv = together.Cluster.ask, float(sys.argv[2]), sys.argv[2:]
+
+def told(self, words, *own, **more):
+    os.write(1, f"{words['prefix']}\\n".encode())
+    return asked(self, words, *own, **more)
+
+together.Cluster.ask = told
+sys.exit(together.main())
+"""
 # In how many maps all was made, as it is told.
 TOLD_MAPS = re.compile("in ([1-9][0-9]*) maps?")
 
@@ -56,6 +76,23 @@ def compiled(own: Json) -> bytes:
 def exceptions(dump: Json) -> list[str]:
     """The exceptions of an OSD dump, in one order."""
     return sorted(json.dumps(own) for key in ("pg_upmap", "pg_upmap_items") for own in dump[key])
+
+
+def interrupting(at: int) -> type[ThreadPoolExecutor]:
+    """Threads to which a command is handed in by its number as a signal comes."""
+    left = itertools.count(1)
+
+    class Interrupting(ThreadPoolExecutor):
+        """These threads."""
+
+        def submit(self, *words: Any, **more: Any) -> Any:
+            """Hands something in; the signal comes before it is known that it was."""
+            found = super().submit(*words, **more)
+            if isinstance(words[1], dict) and next(left) == at:
+                signal.raise_signal(signal.SIGTERM)
+            return found
+
+    return Interrupting
 
 
 class CrushMaps(Case):
@@ -425,6 +462,19 @@ class Refusals(TogetherCase):
         )
         self.is_as_it_was(world, "")
 
+    def test_interrupted(self) -> None:
+        """A signal that comes as commands are handed in ends the tool behind them: none is made behind what it
+        tells."""
+        self.addCleanup(signal.signal, signal.SIGTERM, signal.signal(signal.SIGTERM, together.end_by_signal))
+        count = len(script_in(self.script.read_text()).commands)
+        for at in (1, 2, count, count + 1):
+            with self.subTest(at=at), mock.patch.object(together, "ThreadPoolExecutor", interrupting(at)):
+                world = self.world()
+                told = self.told(world)
+                self.assertStarts(told, "refused: interrupted; the ")
+                self.tells(world, told)
+                self.assertEqual(world.crush == compiled(NEW), at > count)
+
     def test_elsewhere(self) -> None:
         """Where a group is elsewhere in the end, norebalance is left set, and the old CRUSH map is kept in a file."""
         world = self.world()
@@ -474,7 +524,7 @@ class RealMonitor(TogetherCase):
 
     def given(self, monitor: ReefMonitor, *files: str) -> tuple[int, str]:
         """The status of the file run by itself, and what it tells."""
-        words = [SYSTEM, "-B", PROGRAM, monitor.conf, *(self.folder / own for own in files), "--seconds", 3]
+        words = [SYSTEM, "-B", PROGRAM, monitor.conf, *(self.folder / own for own in files), "--seconds", WAIT]
         done = subprocess.run(
             list(map(str, words)), capture_output=True, text=True, timeout=SECONDS, check=False, cwd=self.folder
         )
@@ -573,23 +623,35 @@ class RealMonitor(TogetherCase):
         self.assertGreater(len(was), 90)
         self.assertEqual({g: set(own[0]) for g, own in now.items()}, {g: set(own[0]) for g, own in was.items()})
 
+    def interrupted(self, monitor: ReefMonitor, place: str) -> tuple[int, str]:
+        """The status of the tool, and what it tells, where it is ended from outside as it gives a command that begins
+        so."""
+        files = [monitor.conf, self.folder / "new", self.folder / "hold.sh"]
+        words = [SYSTEM, "-B", "-c", TOLD, PROGRAM.parent, WAIT, *files, "--seconds", WAIT]
+        process = subprocess.Popen(list(map(str, words)), stdout=subprocess.PIPE, stderr=subprocess.PIPE)
+        assert process.stdout
+        lines = Lines(process.stdout.fileno())
+        while (line := lines.next(SECONDS)) is not None and not line.startswith(place):
+            pass
+        process.send_signal(signal.SIGTERM)
+        _, told = process.communicate(timeout=SECONDS)
+        self.assertIsNotNone(line, told)
+        return process.returncode, told.decode()
+
     def test_signal(self) -> None:
-        """Ended from outside, the tool leaves the cluster as it was, with the interval of before."""
+        """Ended from outside, wherever it is, the tool leaves the cluster as it was, with the interval of before."""
         self.needs("ceph-mon", bool(self.folders))
         tools = self.folders[0]
         with ReefMonitor(tools, OSDMAP) as monitor:
             self.dumped(monitor, tools)
             self.hold()
-            for seconds in (1.0, 4.0):
-                words = [SYSTEM, "-B", PROGRAM, monitor.conf, self.folder / "new", self.folder / "hold.sh"]
-                process = subprocess.Popen(list(map(str, words)), stderr=subprocess.PIPE, text=True)
-                time.sleep(seconds)
-                process.send_signal(signal.SIGTERM)
-                _, told = process.communicate(timeout=SECONDS)
-                self.assertEqual((process.returncode, told), (1, "interrupted; the cluster is as it was\n"))
-                now = self.state(monitor, tools)
-                self.assertEqual((exceptions(now), now["flags"]), (exceptions(self.dump), self.dump["flags"]))
-                found = self.done(
-                    tools / "ceph", "-c", monitor.conf, "tell", "mon.a", "config", "get", together.INTERVAL
-                )
-                self.assertEqual(float(json.loads(found)[together.INTERVAL]), 0.01)
+            for place in ("pg map", "config set", "osd set", "osd pg-upmap"):
+                with self.subTest(place=place):
+                    what = "nothing was given" if place == "pg map" else "the cluster is as it was"
+                    self.assertEqual(self.interrupted(monitor, place), (1, f"interrupted; {what}\n"))
+                    now = self.state(monitor, tools)
+                    self.assertEqual((exceptions(now), now["flags"]), (exceptions(self.dump), self.dump["flags"]))
+                    found = self.done(
+                        tools / "ceph", "-c", monitor.conf, "tell", "mon.a", "config", "get", together.INTERVAL
+                    )
+                    self.assertEqual(float(json.loads(found)[together.INTERVAL]), 0.01)

@@ -31,13 +31,15 @@ import struct
 import sys
 import threading
 from concurrent.futures import FIRST_COMPLETED, Future, ThreadPoolExecutor, wait
-from typing import Any, Callable, Dict, Iterable, List, NamedTuple, NoReturn, Optional, Set, Tuple
+from typing import Any, Callable, Dict, Iterable, Iterator, List, NamedTuple, NoReturn, Optional, Set, Tuple
 
 INTERVAL, FLAG = "paxos_propose_interval", "norebalance"
 # How long an answer may take, in seconds; how much of the stack a thread needs that waits for one; and how many ask.
 PATIENCE, STACK, ASKING = 120, 256 * 1024, 16
 # For how long refusals are waited for before the CRUSH map follows, in seconds.
 PAUSE = 1.0
+# The signals that end this in order.
+SIGNALS = (signal.SIGINT, signal.SIGTERM, signal.SIGHUP)
 # How many groups are told by their names.
 MOST = 5
 Words = Dict[str, object]
@@ -571,10 +573,12 @@ class Giving:
         early = set()  # type: Set[Answer]
         threading.stack_size(STACK)
         try:
-            waits += [threads.submit(self.cluster.ask, own.words()) for own in commands]
+            with postponed_signals():
+                waits += [threads.submit(self.cluster.ask, own.words()) for own in commands]
             if crush is not None:
                 early = wait(waits, PAUSE, FIRST_COMPLETED).done
-                waits += [] if early else [threads.submit(self.cluster.ask, {"prefix": "osd setcrushmap"}, crush)]
+                with postponed_signals():
+                    waits += [] if early else [threads.submit(self.cluster.ask, {"prefix": "osd setcrushmap"}, crush)]
             wait(waits)
         finally:
             # Whatever ends this: only behind the answers it is known what stands.
@@ -636,8 +640,24 @@ class Giving:
 
 def hold_back_signals() -> None:
     """From now on no signal ends this but one that cannot be held back."""
-    for number in (signal.SIGINT, signal.SIGTERM, signal.SIGHUP):
+    for number in SIGNALS:
         signal.signal(number, signal.SIG_IGN)
+
+
+@contextlib.contextmanager
+def postponed_signals() -> Iterator[None]:
+    """Has a signal that ends this come behind what is done here: else something is given that nobody waits for."""
+    come = []  # type: List[int]
+    before = {number: own for number, own in zip(SIGNALS, map(signal.getsignal, SIGNALS)) if callable(own)}
+    for number in before:
+        signal.signal(number, lambda number, _: come.append(number))
+    try:
+        yield
+    finally:
+        for number, own in before.items():
+            signal.signal(number, own)
+    for number in come:
+        before[number](number, None)
 
 
 # The command line
