@@ -24,7 +24,7 @@ from tests.reach import with_weights
 from tests.stores import StoreCase, store_program
 from tests.tool_cases import TOOLS
 
-SECONDS = 60
+SECONDS = 300
 
 
 def shown(line: str) -> str:

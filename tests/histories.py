@@ -27,7 +27,7 @@ from tests.cases import example
 from tests.clusters import Json
 from tests.tool_cases import AS_MONITOR, ToolCase
 
-SECONDS = 60
+SECONDS = 300
 # The tables of a store.
 TABLES = [
     "CREATE TABLE journal (epoch INTEGER PRIMARY KEY, change TEXT NOT NULL) STRICT",

@@ -102,9 +102,9 @@ class Interrupts(ToolCase):
         begin = time.monotonic()
         while not pid.exists() and time.monotonic() < begin + SECONDS:
             time.sleep(0.05)
-        time.sleep(
-            2
-        )  # The tool waits for an answer by now: on a busy machine it may come back from starting the program late.
+        # The tool waits for an answer then: on a busy machine it may come back from starting the program late.
+        time.sleep(2)
+        begin = time.monotonic()
         done.send_signal(signal.SIGINT)
         output, error = done.communicate(timeout=SECONDS)
         self.is_told((done.returncode, output, error), -signal.SIGINT, "interrupted", "df")

@@ -1,7 +1,7 @@
 """Live sessions: the program answers the lines of its standard input, or of a named pipe, as they come.
 
-Whatever waits gives up after a minute: a program that has not ended by then is ended, so that nobody waits for its
-pipes either.
+Whatever waits gives up after five minutes, which nothing takes on a busy machine: a program that has not ended by then
+is ended, so that nobody waits for its pipes either.
 """
 
 from __future__ import annotations
@@ -23,11 +23,11 @@ from tests.cases import EXAMPLE, HERE, Case
 from tests.whole_maps import ON_OSDS, map_of, osds_of, pool_of, rule_of
 
 Process = subprocess.Popen[bytes]
-SECONDS = 60
+SECONDS = 300
 
 
 def limited(process: Process) -> Process:
-    """A process that is ended after a minute, so that whoever waits for it then goes on."""
+    """A process that is ended after five minutes, so that whoever waits for it then goes on."""
     timer = threading.Timer(SECONDS, process.kill)
     timer.daemon = True
     timer.start()
@@ -89,7 +89,7 @@ class Live:
         text = pathlib.Path(f"/proc/{self.process.pid}/status").read_text("utf-8")
         return 1024 * int(re.findall(r"^VmRSS:\s+(\d+) kB", text, re.M)[0])
 
-    def settled_memory(self, most: int, seconds: float = 10) -> int:
+    def settled_memory(self, most: int, seconds: float = 60) -> int:
         """The bytes that it has in memory, once these are fewer than so many, or some time has gone by."""
         end = time.monotonic() + seconds
         while self.memory() >= most and time.monotonic() < end:

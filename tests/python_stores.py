@@ -28,7 +28,7 @@ from tests.stores import but_for_claims, store_program
 from tests.terminals import Terminal
 from tests.tool_cases import AS_STORE, TOOLS, ToolCase
 
-SECONDS = 60
+SECONDS = 300
 # So many changes has a store that is only looked at.
 MANY = 3_000
 STOCK_BUCKET = dict(example()["buckets"][0], kind="straw2")
@@ -348,13 +348,12 @@ class PythonStores(ToolCase):
 
     def test_program_that_is_none(self) -> None:
         """A program that does not tell the epoch first is another, and one that tells nothing in time is ended."""
-        for name, text, told in (
-            ("other", f"{AS_STORE}echo session 1\nexec cat\n", ": another program: its output begins with b'session 1"),
-            ("silent", f"{AS_STORE}exec sleep 60\n", "no answer within 0.2 seconds"),
-            ("gone", f"{AS_STORE}echo 'store: gone' >&2\nexit 7\n", "the program ended with status 7: store: gone"),
-        ):
+        other = f"{AS_STORE}echo session 1\nexec cat\n", ": another program: its output begins with b'session 1"
+        gone = f"{AS_STORE}echo 'store: gone' >&2\nexit 7\n", "the program ended with status 7: store: gone"
+        silent = f"{AS_STORE}exec sleep 60\n", "no answer within 0.2 seconds"
+        for name, (text, told), limit in (("other", other, SECONDS), ("gone", gone, SECONDS), ("silent", silent, 0.2)):
             self.tools.put(name, text).chmod(0o755)
             for sessions in (1, 2):
                 with self.subTest(name=name, sessions=sessions), self.assertRaises(Fault) as fault:
-                    Monitor(program=self.path(name), sessions=sessions, timeout=0.2, store=self.path())
+                    Monitor(program=self.path(name), sessions=sessions, timeout=limit, store=self.path())
                 self.assertIn(told, str(fault.exception))

@@ -4,8 +4,10 @@ osdmaptool, each as it is run. Without it the tests that need them are not run.
 
 from __future__ import annotations
 
+import contextlib
 import os
 import pathlib
+import random
 import re
 import socket
 import subprocess
@@ -53,11 +55,12 @@ def reef_tools() -> "pathlib.Path | None":
 
 
 def free_port() -> int:
-    """A port of this machine that nobody has."""
-    with socket.socket() as own:
-        own.bind(("127.0.0.1", 0))
-        port: int = own.getsockname()[1]
-    return port
+    """A port of this machine that nobody has, below those that connections are given meanwhile."""
+    while True:
+        port = random.randrange(10_000, 32_000)
+        with socket.socket() as own, contextlib.suppress(OSError):
+            own.bind(("127.0.0.1", port))
+            return port
 
 
 class ReefMonitor:

@@ -100,9 +100,10 @@ class StoreBackups(StoreCase):
         """A copy whose making is killed is whole or not there, and the store stays as it is; what is left of it keeps
         no other from being made in its place."""
         with_rows(self, ROWS)
-        rng, begin, before = random.Random(4), time.monotonic(), self.store.read_bytes()
-        self.judge(self.folder / "one", self.ran("--backup", self.folder / "one", self.store), ROWS + 1, ROWS + 1)
+        rng, before, begin = random.Random(4), self.store.read_bytes(), time.monotonic()
+        done = self.ran("--backup", self.folder / "one", self.store)
         taken, made = time.monotonic() - begin, 0
+        self.judge(self.folder / "one", done, ROWS + 1, ROWS + 1)
         for number in range(KILLS):
             copy = self.folder / f"killed-{number}"
             with self.subTest(copy=number):
@@ -112,7 +113,8 @@ class StoreBackups(StoreCase):
                     process.kill()
                 self.assertEqual(self.store.read_bytes(), before)
                 if copy.exists():
-                    made += 1
+                    # The first copy may have been made on a busier machine than the others are.
+                    made, taken = made + 1, 0.8 * taken
                     self.assertEqual(held(copy).last, ROWS + 1)
                     continue
                 left = files_of(copy)

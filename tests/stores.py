@@ -23,7 +23,7 @@ from tests.clusters import Json
 from tests.rows import written
 
 BUILT = TOP / "crates" / "osdmapstore" / "out" / "osdmapstore"
-SECONDS = 60
+SECONDS = 300
 # What a run tells once it has made all the changes that its journal has room for.
 FULL = "journal: full, so this run takes no more changes\n"
 # What stands beside a change: the number of the store's life, when it was made, and by whom.

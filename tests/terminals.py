@@ -97,7 +97,7 @@ class Terminals(ToolCase):
         words = Tools(late, self.tools.folder).words("df", EXAMPLE)
         terminal = Terminal(words, self.tools.folder)
         found = terminal.type("", "over all pools")
-        self.assertIn("df: the program opens a map, 2 s", found.replace("3 s", "2 s"))
+        self.assertRegex(found, "df: the program opens a map, ([2-9]|[1-9][0-9]+) s")
         self.assertIn("\r\x1b[K", found)
         terminal.close()
         done = subprocess.run(words, capture_output=True, text=True, timeout=SECONDS, check=True)

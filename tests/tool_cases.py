@@ -21,7 +21,7 @@ from tests.runs import zipped
 from tests.schemas import faults_of
 
 TOOLS = TOP / "tools" / "rekhuso"
-SECONDS = 120
+SECONDS = 300
 # What a script begins with that stands in a program's place: the tools ask its version first.
 SHELL = f'#!/bin/sh\n[ "$1" = --version ] && echo "{{}} {VERSION}" && exit\n'
 AS_MONITOR, AS_STORE = SHELL.format("osdmapd"), SHELL.format("osdmapstore")

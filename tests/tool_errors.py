@@ -22,6 +22,8 @@ from tests.clusters import CLUSTERS, STOCK, copied
 from tests.tool_cases import AS_MONITOR, TOOLS, ToolCase, Tools
 
 SECONDS = 30
+# Runs a command once nobody reads its output any more, and tells its status.
+UNREAD = '{ while (echo) 2> /dev/null; do sleep 0.01; done; "$@"; echo $? >&2; }'
 # The commands that put scripts out, by the same words.
 PUTTING = ("plan", "hold", "release", "drain")
 
@@ -58,7 +60,7 @@ class ToolErrors(ToolCase):
         for words in cases:
             with self.subTest(words=words):
                 for sink, told in ((">/dev/full", "No space left on device"), (">&-", "closed"), ("| exec true", None)):
-                    line = f'"$@" {sink}' if not sink.startswith("|") else '{ sleep 0.2; "$@"; echo $? >&2; } | :'
+                    line = f'"$@" {sink}' if not sink.startswith("|") else f"{UNREAD} | :"
                     done = subprocess.run(
                         ["bash", "-c", line, "sh", *self.tools.words(*words)],
                         capture_output=True,

@@ -656,8 +656,8 @@ def postponed_signals() -> Iterator[None]:
     finally:
         for number, own in before.items():
             signal.signal(number, own)
-    for number in come:
-        before[number](number, None)
+    for found in come:
+        before[signal.Signals(found)](found, None)
 
 
 # The command line
