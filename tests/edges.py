@@ -93,6 +93,7 @@ NUMBERED: list[list[Any]] = [
     ["next", EXAMPLE, EXAMPLE, EXAMPLE, "--pgs", EXAMPLE, "--most="],
     ["explain", EXAMPLE, ""],
     ["history", EXAMPLE, "--at="],
+    ["history", EXAMPLE, "--without-log="],
     ["together", EXAMPLE, EXAMPLE, EXAMPLE, "--seconds="],
     ["whatif", EXAMPLE, "--out="],
     ["whatif", EXAMPLE, "--each="],

@@ -34,6 +34,11 @@ TABLES = [
     "CREATE TABLE map (epoch INTEGER PRIMARY KEY, text TEXT NOT NULL) STRICT",
 ]
 FIRST = TABLES + ["INSERT INTO map VALUES (1, '{}')"]
+# What a store of the newer form has beside them.
+NOTED = ["CREATE TABLE store (life INTEGER PRIMARY KEY, keep INTEGER NOT NULL) STRICT"]
+NOTED.append("INSERT INTO store VALUES (7, 5)")
+# So many changes has the file of a store whose log has the others.
+IN_FILE = 3
 
 # A CRUSH map with another rule, and a pool.
 CRUSH = {"buckets": example()["buckets"], "rules": [*example()["rules"], dict(example()["rules"][0], id=7)]}
@@ -130,7 +135,7 @@ class Histories(ToolCase):
 
     def sealed_store(self, name: str) -> pathlib.Path:
         """A store whose pages end in sums."""
-        with store_at(self.path(name), "PRAGMA page_size = 4096", "PRAGMA user_version = 1"):
+        with store_at(self.path(name), "PRAGMA page_size = 4096", "PRAGMA application_id = 1"):
             pass
         page = bytearray(self.path(name).read_bytes())
         # Eight bytes are kept at the end of each page, so that the room for rows ends before them.
@@ -222,10 +227,8 @@ class Histories(ToolCase):
             ("life=7,made=0,by=bob ", " by bob"),
             ("life=7,made=18446744073709551615 ", ""),
         ]
-        about = ["CREATE TABLE store (life INTEGER PRIMARY KEY, keep INTEGER NOT NULL) STRICT"]
-        about.append("INSERT INTO store VALUES (7, 5)")
         every = [(epoch, f"{note}{text}") for (note, _), (epoch, text) in zip(told, rows())]
-        with store_at(self.path(), *TABLES, *about) as database:
+        with store_at(self.path(), *TABLES, *NOTED) as database:
             fill(database, example(), every)
         _, _, *lines = self.output("history", self.path()).splitlines()
         self.assertEqual(
@@ -241,7 +244,7 @@ class Histories(ToolCase):
         ]
         for number, (note, reason) in enumerate(cases):
             path = self.path(f"wrong-{number}")
-            with store_at(path, *TABLES, *about) as database:
+            with store_at(path, *TABLES, *NOTED) as database:
                 fill(database, example(), [(2, f"{note}{rows()[0][1]}")])
             self.is_told(self.tools.run("history", path), 2, f"{path}: {reason}", note)
 
@@ -311,6 +314,76 @@ class Histories(ToolCase):
                 self.assertEqual((len(lines), lines[1]), (1 + len(CHANGES), "epoch 2: osd.2 down"))
                 self.output("history", path, "--at", 3)
         self.assertEqual(held(folder), before)
+
+    def claiming(self, name: str, claim: int, *about: str) -> tuple[pathlib.Path, bytes]:
+        """A store in a folder of its own, whose file has the first changes and claims a log that has the others; and
+        that log."""
+        folder, path = self.path(name), self.path(f"{name}-open")
+        folder.mkdir()
+        with store_at(path, *TABLES, *about, f"PRAGMA user_version = {claim}") as database:
+            fill(database, example(), rows()[:IN_FILE])
+        with store_at(path, is_logged=True) as database:
+            database.executemany("INSERT INTO journal VALUES (?, ?)", rows()[IN_FILE:])
+            for end in ("", "-wal"):
+                shutil.copyfile(f"{path}{end}", folder / f"store{end}")
+        return folder / "store", (folder / "store-wal").read_bytes()
+
+    def is_lost(self, path: pathlib.Path, epoch: int, *words: object) -> None:
+        """Asks that `history` tells that the log of a store is missing, and by which word it goes on, and nothing
+        else; and that it leaves all as it is."""
+        before = held(path.parent)
+        told = f"its log is missing: bring it back, or by --without-log {epoch} lose what it has behind that epoch"
+        self.assertEqual(self.tools.run("history", path, *words), (2, "", f"{path}: {told}\n"))
+        self.assertEqual(held(path.parent), before)
+
+    def test_log_that_is_missing(self) -> None:
+        """Where the file of a store claims a log that is missing, or shorter than an empty one, that is told before
+        anything else, but for the epoch that is told; with its log it is whole, whatever epoch is given."""
+        for name, about in (("older", NOTED[:0]), ("newer", NOTED)):
+            path, log = self.claiming(name, 7, *about)
+            left = path.with_name("store-wal")
+            lines = self.output("history", path).splitlines()
+            self.assertEqual(lines[-1], f"epoch {1 + len(CHANGES)}: {CHANGES[-1][1]}")
+            for own in (None, b"", log[:40]):
+                left.unlink()
+                if own is not None:
+                    left.write_bytes(own)
+                every: list[list[object]] = [[], ["--json"], ["--at", 2], ["--at", 99], ["--names", "none"]]
+                for words in [*every, ["--without-log", 1], ["--without-log", 8]]:
+                    with self.subTest(name=name, left=own and len(own), words=words):
+                        self.is_lost(path, 7, *words)
+                found = self.output("history", path, "--without-log", 7).splitlines()
+                self.assertEqual(found, lines[: len(lines) - len(CHANGES) + IN_FILE])
+                told = self.json("history", path, "--without-log", 7)
+                self.assertEqual((told["epoch"], len(told["changes"])), (1 + IN_FILE, IN_FILE))
+                self.output("history", path, "--without-log", 7, "--at", 1 + IN_FILE)
+                left.write_bytes(log[:41])
+                self.assertEqual(self.output("history", path).splitlines(), found)
+                left.write_bytes(log)
+                self.assertEqual(self.output("history", path, "--without-log", 9).splitlines(), lines)
+
+    def test_claims(self) -> None:
+        """A claim is told as SQLite has it, up to the greatest, also over a link; a store that claims nothing is read
+        without a log, and another database that has a user version is no store."""
+        path, _ = self.claiming("most", -1)
+        path.with_name("store-wal").unlink()
+        self.path("most/link").symlink_to(path)
+        for own in (path, self.path("most/link")):
+            self.is_lost(own, (1 << 32) - 1)
+            self.assertIn("epoch 2: ", self.output("history", own, "--without-log", (1 << 32) - 1))
+        path, log = self.claiming("none", 0)
+        path.with_name("store-wal").unlink()
+        self.assertEqual(self.output("history", path), self.output("history", path, "--without-log", 7))
+        with store_at(self.path("other"), "CREATE TABLE t (a)", "PRAGMA user_version = 7"):
+            pass
+        forms: list[list[object]] = [[], ["--without-log", 7]]
+        for words in forms:
+            told = self.tools.run("history", self.path("other"), *words)
+            self.is_told(told, 2, f"{self.path('other')}: the file is not a store", words)
+        for word in ("0", "4294967296", "x", "-1", "", "\u0661"):
+            with self.subTest(word=word):
+                told = self.tools.run("history", path, f"--without-log={word}")
+                self.is_told(told, 2, "error: argument --without-log: ", word)
 
     def test_files_stay_as_they_are(self) -> None:
         """A store without a log is not written, and nothing is made beside it."""

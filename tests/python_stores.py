@@ -24,7 +24,7 @@ from rekhuso import Fault, Monitor, Refused, Session, Unopened
 from tests import model
 from tests.cases import EXAMPLE, example
 from tests.histories import CHANGES, TABLES, fill, held, rows, store_at
-from tests.stores import but_for_claims, store_program
+from tests.stores import but_for_claims, files_of, log_of, store_program
 from tests.terminals import Terminal
 from tests.tool_cases import AS_STORE, TOOLS, ToolCase
 
@@ -255,6 +255,54 @@ class PythonStores(ToolCase):
         other = self.tools.run("backup", self.path(), self.path("other"), "--store-program", self.tools.program)
         self.is_told(other, 2, f"{self.tools.program}: ", "another program")
         self.assertFalse(self.path("other").exists())
+
+    def with_lost_log(self) -> bytes:
+        """Makes a store whose program is killed behind a change, and takes its log away: the log."""
+        with self.monitor(example()) as monitor:
+            monitor.change(down=[2])
+            os.kill(monitor._process.pid, signal.SIGKILL)
+            with self.assertRaises(Fault):
+                monitor.epoch()
+        log = log_of(self.path()).read_bytes()
+        log_of(self.path()).unlink()
+        return log
+
+    def test_lost_log(self) -> None:
+        """Where the log of a store is missing behind a kill, each tool tells so in the same words, and changes nothing;
+        with the epoch that is told each goes on from what the file has. Behind an orderly end no log is missed."""
+        log, program = self.with_lost_log(), ["--store-program", store_program()]
+        told = "its log is missing: bring it back, or by --without-log 1 lose what it has behind that epoch"
+        for left in (None, log[:40]):
+            if left is not None:
+                log_of(self.path()).write_bytes(left)
+            before = files_of(self.path())
+            forms: list[list[object]] = [[], ["--without-log", 2]]
+            for words in forms:
+                for own in (["history", self.path()], ["backup", self.path(), self.path("copy"), *program]):
+                    self.is_told(self.tools.run(*own, *words), 2, f"{self.path()}: {told}\n", (left, own, words))
+                self.is_told(self.shell("--store", self.path(), *words, typed="epoch\n"), 2, f": {told}\n", words)
+            self.is_unopened(told, self.monitor)
+            self.is_unopened(told, lambda: self.monitor(without_log=2))
+            self.assertEqual((files_of(self.path()), self.path("copy").exists()), (before, False))
+        words = ["--without-log", 1]
+        self.assertEqual(self.output("history", self.path(), *words).splitlines()[-1][:8], "epoch 1:")
+        self.assertEqual(
+            self.tools.run("backup", self.path(), self.path("copy"), *program, *words), (0, "epoch 1\n", "")
+        )
+        self.assertEqual(self.shell("--store", self.path("copy"), *words, typed="epoch\n"), (0, "epoch 1\n", ""))
+        with self.monitor(without_log=1) as monitor:
+            self.assertEqual((monitor.found_epoch, monitor.change(down=[1]).epoch), (1, 2))
+        log_of(self.path()).unlink()
+        self.assertIn("\nepoch 2", self.output("history", self.path()))
+
+    def test_words_of_a_lost_log(self) -> None:
+        """`without_log` opens a store that is there, and is an error of use elsewhere."""
+        told = "--without-log goes with --store alone, and with no map"
+        self.is_told(self.shell(EXAMPLE, "--store", "s", "--without-log", 1, typed=""), 2, told, "map")
+        self.is_told(self.tools.run("shell", EXAMPLE, "--without-log", 1, stdin=""), 2, told, "no store")
+        for value, store in ((example(), "s"), (example(), None)):
+            with self.assertRaises(ValueError):
+                Monitor(value, store_program(), store=store, without_log=1)
 
     def test_looking(self) -> None:
         """Who only looks at a store leaves the bytes of its file as they are, however many changes it has; a session

@@ -148,6 +148,19 @@ def add_files(own: argparse.ArgumentParser) -> None:
     add_names(own)
 
 
+def lost_epoch(word: str) -> int:
+    """The epoch behind which a store may lose what its log had; an error of use where a word is none."""
+    if not re.fullmatch("[0-9]{1,10}", word) or not 1 <= int(word) < 1 << 32:
+        raise argparse.ArgumentTypeError(f"{word}: no epoch from 1 to {(1 << 32) - 1}")
+    return int(word)
+
+
+def add_without_log(own: argparse.ArgumentParser) -> None:
+    """The option for a store whose log is missing."""
+    about = "takes a store whose log is missing as its file has it: the epoch that was told of that"
+    own.add_argument("--without-log", metavar="EPOCH", type=lost_epoch, help=about)
+
+
 def add_names_file(own: argparse.ArgumentParser) -> None:
     """The option for names."""
     reading(own).add_argument("--names", metavar="FILE", help="names, as `import --names` wrote them")

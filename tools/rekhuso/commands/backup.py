@@ -15,7 +15,7 @@ from ..program.process import built, told_by
 from ..program.versions import program_of
 from ..progress import doing
 from ..values import SLOTS
-from .arguments import Arguments, Commands, set_work
+from .arguments import Arguments, Commands, add_without_log, set_work
 
 # What stands before the reason of a store that is not copied.
 REASON = "store: "
@@ -23,13 +23,14 @@ REASON = "store: "
 
 @dataclass(frozen=True, **SLOTS)
 class BackupOptions:
-    """The file of a store, that of the copy, whether it is to go on by itself, and the program of a store, if one is
-    named.
+    """The file of a store, that of the copy, whether it is to go on by itself, the epoch behind which the log may be
+    missing, if one is named, and the program of a store, if one is named.
     """
 
     store: str
     to: str
     is_restore: bool
+    without_log: int | None
     store_program: Program
     program: Program
 
@@ -37,15 +38,16 @@ class BackupOptions:
 def options_of(arguments: Arguments) -> BackupOptions:
     """The options of the command line."""
     own = arguments
-    return BackupOptions(own.store, own.to, own.restore, own.store_program, own.program)
+    return BackupOptions(own.store, own.to, own.restore, own.without_log, own.store_program, own.program)
 
 
 def work(options: BackupOptions) -> None:
     """Makes the copy, and tells its epoch."""
     program = program_of(options.store_program or built("osdmapstore", options.program), "osdmapstore")
     doing("copying the store")
-    restore = ["--restore"] * options.is_restore
-    done = told_by([str(program), f"--backup={options.to}", *restore, "--", options.store])
+    how = ["--restore"] * options.is_restore
+    how += [] if options.without_log is None else [f"--without-log={options.without_log}"]
+    done = told_by([str(program), f"--backup={options.to}", *how, "--", options.store])
     if done.error.startswith(REASON):
         raise Unopened(options.store, done.error.strip().removeprefix(REASON))
     if done.status:
@@ -62,6 +64,7 @@ def add_to(commands: Commands) -> None:
     own.add_argument(
         "--restore", action="store_true", help="the copy is to go on by itself, as a store with another number"
     )
+    add_without_log(own)
     own.add_argument(
         "--store-program",
         metavar="FILE",

@@ -4,7 +4,8 @@ A store is the file in which `osdmapstore` keeps a map and its changes: each sta
 there, or as many as its option --keep said last, each with the time at which it was made, by the clock of the machine;
 and above them stands the number of the store's life, by which two stores of the
 same epochs are told apart. A copy of the file and of its log is read, also while a program has the store open, and
-nothing is written into them or beside them. The map of an epoch is made by the program, change by change.
+nothing is written into them or beside them. Where a run had no orderly end and its log is missing, that is told, and
+--without-log tells what the file has. The map of an epoch is made by the program, change by change.
 """
 
 from __future__ import annotations
@@ -21,16 +22,17 @@ from ..output.json_output import put_json
 from ..program.maps import Program
 from ..program.stores import StoredJournal, journal_in, map_at
 from ..values import SLOTS
-from .arguments import Arguments, Commands, add_json, add_names_file, set_work
+from .arguments import Arguments, Commands, add_json, add_names_file, add_without_log, set_work
 
 
 @dataclass(frozen=True, **SLOTS)
 class HistoryOptions:
-    """The file of a store, the epoch whose map is asked for, if one is, a file of names, the program, and whether it is
-    told as JSON.
+    """The file of a store, the epoch behind which its log may be missing, if one is named, the epoch whose map is asked
+    for, if one is, a file of names, the program, and whether it is told as JSON.
     """
 
     store: str
+    without_log: int | None
     at: int | None
     names: str | None
     program: Program
@@ -42,7 +44,7 @@ def options_of(arguments: Arguments) -> HistoryOptions:
     own = arguments
     if own.at is not None and (own.json or own.names is not None):
         raise Misuse("--at puts out a map as it is: --json and --names do not go with it")
-    return HistoryOptions(own.store, own.at, own.names, own.program, own.json)
+    return HistoryOptions(own.store, own.without_log, own.at, own.names, own.program, own.json)
 
 
 def put_map(journal: StoredJournal, epoch: int, program: Program) -> None:
@@ -67,7 +69,7 @@ def put_history(journal: StoredJournal, names: Names, is_json: bool) -> None:
 
 def work(options: HistoryOptions) -> None:
     """Tells what changed in a store, or the map of an epoch."""
-    journal, names = journal_in(options.store), names_in(options.names)
+    journal, names = journal_in(options.store, options.without_log), names_in(options.names)
     if options.at is not None:
         put_map(journal, options.at, options.program)
         return
@@ -86,6 +88,7 @@ def add_to(commands: Commands) -> None:
     own = commands.add_parser("history", help="what changed in a store, epoch by epoch", description=__doc__)
     own.add_argument("store", metavar="STORE", help="the file in which osdmapstore keeps a map and its changes")
     own.add_argument("--at", metavar="EPOCH", type=epoch_number, help="instead: the map of this epoch")
+    add_without_log(own)
     add_names_file(own)
     add_json(own)
     set_work(own, options_of, work)

@@ -29,7 +29,18 @@ from ..program.maps import Program
 from ..program.monitor import Monitor
 from ..program.process import built
 from ..values import SLOTS
-from .arguments import ABOUT_FILES, FILES, Arguments, Commands, Files, add_names, set_work, source_of, usage
+from .arguments import (
+    ABOUT_FILES,
+    FILES,
+    Arguments,
+    Commands,
+    Files,
+    add_names,
+    add_without_log,
+    set_work,
+    source_of,
+    usage,
+)
 
 HELP = {
     "up": "up PG: the up set of a group and its primary, as up 1.0",
@@ -236,11 +247,12 @@ def piped(live: LiveMap) -> None:
 @dataclass(frozen=True, **SLOTS)
 class ShellOptions:
     """What the shell is over: a map, or the dumps of a cluster that one map holds; or a store, if one is given, which
-    these begin. The program of a store, if one is named.
+    these begin. The epoch behind which its log may be missing, and the program of a store, if they are named.
     """
 
     source: Source
     store: str | None
+    without_log: int | None
     store_program: Program
 
     def program(self) -> Program:
@@ -257,7 +269,9 @@ def options_of(arguments: Arguments) -> ShellOptions:
         raise Misuse("one map, or two dumps, or --store STORE")
     if own.store is None and own.store_program is not None:
         raise Misuse("--store-program goes with --store alone")
-    return ShellOptions(source_of(own), own.store, own.store_program)
+    if own.without_log is not None and (own.store is None or own.files):
+        raise Misuse("--without-log goes with --store alone, and with no map")
+    return ShellOptions(source_of(own), own.store, own.without_log, own.store_program)
 
 
 def live_map(options: ShellOptions) -> LiveMap:
@@ -270,7 +284,7 @@ def live_map(options: ShellOptions) -> LiveMap:
     source.check_map()
     names = names_in(source.names)
     if not source.paths:
-        return LiveMap(Monitor(program=program, store=store), names)
+        return LiveMap(Monitor(program=program, store=store, without_log=options.without_log), names)
     return LiveMap(map_monitor(source.paths[0], program, store=store)[1], names)
 
 
@@ -295,13 +309,14 @@ def add_to(commands_of: Commands) -> None:
     """The subcommand."""
     own = commands_of.add_parser("shell", help="a prompt over a live session", description=__doc__)
     words = "--store STORE [--store-program FILE]"
-    own.usage = f"{usage(f'[{words}]')}\n       %(prog)s {words} [--names FILE]"
+    own.usage = f"{usage(f'[{words}]')}\n       %(prog)s {words} [--without-log EPOCH] [--names FILE]"
     own.add_argument("files", metavar=FILES, nargs="*", action=Begun, help=ABOUT_FILES)
     own.add_argument(
         "--store",
         metavar="STORE",
         help="the file in which the map and its changes are kept: a new one with a map or dumps, else the one there is",
     )
+    add_without_log(own)
     own.add_argument(
         "--store-program",
         metavar="FILE",

@@ -96,8 +96,9 @@ class Monitor(Session):
     its sessions. A text begins with a brace, or names no file. It is closed by `with`, or by `close`. Where a timeout
     is given, a start, a question or an end that takes more seconds ends the program. Under `stock` the map and its
     changes may have straw2 buckets; where nothing is said, the map tells it. With the path of a store, a run of the
-    program that keeps one: it begins the store with the map, or without a map opens it. `found_epoch` is then the epoch
-    of the map that it began with, else None.
+    program that keeps one: it begins the store with the map, or without a map opens it; where its log is missing, only
+    with the epoch of `without_log`, which `Unopened` tells. `found_epoch` is then the epoch of the map that it began
+    with, else None.
     """
 
     def __init__(
@@ -109,16 +110,20 @@ class Monitor(Session):
         timeout: float | None = None,
         stock: bool | None = None,
         store: str | os.PathLike[str] | None = None,
+        without_log: int | None = None,
     ) -> None:
         """Starts the program (that of the repository, or of the path, where none is given) with 1 to 64 sessions and
-        a journal of so many changes, 1 to 65,536. ValueError for another number of sessions, and where there is neither
-        a map nor a store; a fault where there is no program or it does not start, `Refused` where it refuses the map,
-        and `Unopened` where it does not begin or open the store.
+        a journal of so many changes, 1 to 65,536. ValueError for another number of sessions, where there is neither a
+        map nor a store, and for a `without_log` that opens none; a fault where there is no program or it does not
+        start, `Refused` where it refuses the map, and `Unopened` where it does not begin or open the store.
         """
         if not 1 <= sessions <= 64:
             raise ValueError("1 to 64 sessions")
         if value is None and store is None:
             raise ValueError("a map or a store")
+        if without_log is not None and (value is not None or store is None):
+            raise ValueError("without_log goes with a store alone, and with no map")
+        self._lost = [] if without_log is None else ["--without-log", str(without_log)]
         self.program = program_of(program, "osdmapd" if store is None else "osdmapstore")
         text = None if value is None else map_text(value)
         self.is_stock = stock if stock is not None else text is None or needs_stock(text)
@@ -150,7 +155,8 @@ class Monitor(Session):
                 pathlib.Path(self._folder.name, "map.json").write_text(text, encoding="utf-8")
         files = ["map.json"]
         if self._store is not None:
-            files = [*kept_in(self._store), self._store] if text is None else ["--begin", "map.json", self._store]
+            own = [*kept_in(self._store), *self._lost]
+            files = [*own, self._store] if text is None else ["--begin", "map.json", self._store]
         sessions = [lines for lines, _ in names] + [word for _, answers in names for word in ("--to", answers)]
         return [*(["--stock"] if self.is_stock else []), "--journal", str(journal), *files, *(sessions or ["-"])]
 

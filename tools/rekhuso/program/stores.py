@@ -33,6 +33,10 @@ from .process import temporary
 # The bytes of a log's header, in which each log has salts of its own; and how often files are copied until none was
 # begun anew meanwhile.
 HEADER, TRIES = 32, 100
+# Where a database has SQLite's user version, by which a store claims its log; how many bytes its first page has at
+# most, and what it has of a store there; and how many bytes a log has at least, one that holds nothing.
+CLAIM, PAGE, LOG = slice(60, 64), 65536, 41
+CLAIMING = b"CREATE TABLE journal (epoch INTEGER PRIMARY KEY, change TEXT NOT NULL) STRICT"
 # Where a database says that it has a log, and how.
 MODES, LOGGED = slice(18, 20), b"\x02\x02"
 # The bytes of a database that its readers lock together, and whoever has it for himself alone.
@@ -61,6 +65,7 @@ MISSING = "there is no store at this path"
 FOREIGN = "the file is not a store"
 DAMAGED = "the store is damaged"
 MIXED = "the store has a change of another store: its log is not its own"
+LOST = "its log is missing: bring it back, or by --without-log {} lose what it has behind that epoch"
 IN_USE = "the store is in use; it is read once the program that has it open has ended"
 MOVING = "the store was written faster than it was copied"
 
@@ -199,6 +204,20 @@ def copied(path: str) -> Iterator[str]:
         yield place
 
 
+def check_log(path: str, place: str, without_log: int | None) -> None:
+    """`Unopened` where the copy of a store claims a log that is missing, but for the claim of the epoch behind which
+    changes may be lost.
+    """
+    log = f"{place}-wal"
+    if os.path.exists(log) and os.path.getsize(log) >= LOG:
+        return
+    with open(place, "rb") as file:
+        page = file.read(PAGE)
+    claim = int.from_bytes(page[CLAIM], "big") if CLAIMING in page else 0
+    if claim not in (0, without_log):
+        raise Unopened(path, LOST.format(claim))
+
+
 # The tables of a store
 
 
@@ -268,16 +287,23 @@ def journal_of(database: sqlite3.Connection, path: str, facts: StoreFacts | None
     return StoredJournal(path, epoch, text, changes, facts)
 
 
-def journal_in(path: str) -> StoredJournal:
-    """What a store holds. `Unopened` where there is no store, it cannot be copied now, or its file is another or was
-    changed by another program.
+def journal_in(path: str, without_log: int | None = None) -> StoredJournal:
+    """What a store holds. `Unopened` where there is no store, it cannot be copied now, its log is missing behind an
+    epoch that is not named here, or its file is another or was changed by another program.
     """
     if sqlite3.sqlite_version_info < LEAST:
         raise Trouble(
             f"{path}: the SQLite of this Python is {sqlite3.sqlite_version}, and 3.37 the first that reads it"
         )
     doing("reading the store")
-    with copied(path) as place, contextlib.closing(sqlite3.connect(place, isolation_level=None)) as database:
+    with copied(path) as place:
+        check_log(path, place, without_log)
+        return journal_at(path, place)
+
+
+def journal_at(path: str, place: str) -> StoredJournal:
+    """What the copy of a store holds. `Unopened` where its file is another or was changed by another program."""
+    with contextlib.closing(sqlite3.connect(place, isolation_level=None)) as database:
         try:
             facts = facts_of(database, path)
             database.execute("PRAGMA wal_checkpoint(TRUNCATE)").fetchall()
