@@ -25,7 +25,7 @@ from tests.histories import TABLES, fill, rows, store_at
 from tests.tool_cases import AS_STORE
 
 TOOLS = TOP / "tools"
-SECONDS = 120
+SECONDS = 300
 
 # Puts out the names of all commands.
 NAMES = """
