@@ -371,9 +371,13 @@ class Histories(ToolCase):
         for own in (path, self.path("most/link")):
             self.is_lost(own, (1 << 32) - 1)
             self.assertIn("epoch 2: ", self.output("history", own, "--without-log", (1 << 32) - 1))
-        path, log = self.claiming("none", 0)
+        path, _ = self.claiming("none", 0)
         path.with_name("store-wal").unlink()
         self.assertEqual(self.output("history", path), self.output("history", path, "--without-log", 7))
+        self.path("unlogged").mkdir()
+        with store_at(self.path("unlogged/store"), *TABLES, "PRAGMA user_version = 7") as database:
+            fill(database, example(), rows())
+        self.is_lost(self.path("unlogged/store"), 7)
         with store_at(self.path("other"), "CREATE TABLE t (a)", "PRAGMA user_version = 7"):
             pass
         forms: list[list[object]] = [[], ["--without-log", 7]]
