@@ -26,8 +26,9 @@ from collections.abc import Iterator
 from typing import Any
 
 import ceph
+from maps import exceptions_of, groups_of, reweights_of, trees_of, weights_of, with_commands
 from running import Folder, found, heading, in_folder, output, table
-from tools import commands, with_commands, words
+from tools import commands, words
 
 HERE = os.path.dirname(os.path.abspath(__file__))
 STOCK = os.path.join(os.path.dirname(HERE), "tests", "stock.json.gz")
@@ -245,29 +246,17 @@ def moves(before: Any, after: Any) -> Any:
 
 def evenness(value: Any, sets: Any) -> tuple[Any, Any]:
     """How many groups the OSDs of a map of one pool are from their shares: at most, and as a standard deviation."""
-    weights, osds = {item: own for bucket in value["buckets"] for item, own in bucket["items"]}, {
-        osd["id"]: osd for osd in value["osds"]
-    }
-    buckets = {bucket["id"]: [item for item, _ in bucket["items"]] for bucket in value["buckets"]}
-
-    def below(number: int) -> Any:
-        return [number] if number >= 0 else [osd for item in buckets[number] for osd in below(item)]
-
-    rule = next(rule for rule in value["rules"] if rule["id"] == value["pools"][0]["rule"])
-    reached = {osd for step in rule["steps"] if step[0] == "take" for osd in below(step[1])}
-    own = {
-        osd: weights[osd] * osds[osd]["weight"]
-        for osd in reached
-        if osd in osds and osds[osd]["up"] and osds[osd]["weight"]
-    }
+    weights, osds = weights_of(value), reweights_of(value)
+    trees = trees_of(value, value["pools"][0])
+    own = {osd: weights[osd] * osds[osd] for tree in trees for osd in tree if osds.get(osd)}
     places = [osd for group in sets.values() for osd in group if osd in own]
     away = [places.count(osd) - len(places) * weight / sum(own.values()) for osd, weight in own.items()]
-    return max(map(abs, away), default=0.0), (sum(gap * gap for gap in away) / max(len(away), 1)) ** 0.5
+    return max((abs(gap) for gap in away), default=0.0), (sum(gap * gap for gap in away) / max(len(away), 1)) ** 0.5
 
 
 def program_sets(runs: Folder, value: Any) -> dict[Any, Any]:
     """The up sets of a map by the program, as Ceph's are."""
-    groups = [f"{pool['id']}.{number:x}" for pool in value["pools"] for number in range(pool["pg_num"])]
+    groups = groups_of(value)
     answers = output(runs.words(runs.map(value), "".join(f"up {group}\n" for group in groups)))
     return {group: json.loads(answer.split(" ")[3].replace("none", "null")) for group, answer in zip(groups, answers)}
 
@@ -303,7 +292,7 @@ def compared(runs: Folder, name: str, own: Any, pool: Any) -> Any:
         return "does not come in"
     value, made = json.loads(text), CephMap(own, pool, runs.folder, name)
     explicit, items = (
-        [entry for entry in value[key] if entry[0].startswith(f"{number}.")] for key in ("pg_upmap", "pg_upmap_items")
+        [entry for entry in entries if entry[0].startswith(f"{number}.")] for entries in exceptions_of(value)
     )
     made.put(explicit, items)
     before = made.sets()
@@ -318,10 +307,10 @@ def compared(runs: Folder, name: str, own: Any, pool: Any) -> Any:
     )
     if told is None:
         return "no plan"
-    after = dict(zip(("pg_upmap", "pg_upmap_items"), with_commands(value, commands(told))))
-    made.put(*after.values())
+    after = with_commands(value, commands(told))
+    made.put(*exceptions_of(after))
     ours, taken = made.sets(), len(ceph.taken_back(made.path))
-    unlike = sum(ours[group] != places for group, places in program_sets(runs, dict(value, **after)).items())
+    unlike = sum(ours[group] != places for group, places in program_sets(runs, after).items())
     made.put(explicit, items)
     start, one = (evenness(value, sets) for sets in (before, ours))
     return [

@@ -20,7 +20,7 @@ from collections.abc import Iterator
 from typing import Any
 
 import stuck
-from maps import a_map, flat, osds, paired, pool, stock
+from maps import a_map, flat, osds, paired, pool, rule, stock, whole
 from running import (
     GOALS,
     LIMIT,
@@ -93,16 +93,9 @@ def in_vain(kind: str = "list", is_coded: bool = False) -> dict[Any, Any]:
         device += len(light)
     placing, step = ("erasure", "chooseleaf_indep") if is_coded else ("replicated", "chooseleaf_firstn")
     block = [["take", -1], [step, 0, 14], ["emit"]]
-    rule = {"id": 0, "kind": placing, "steps": [["set_choose_tries", 200], ["set_chooseleaf_tries", 200]] + block * 4}
-    return {
-        "buckets": buckets,
-        "epoch": 1,
-        "max_osd": device,
-        "osds": [{"exists": True, "id": i, "up": True, "weight": 0} for i in range(device)],
-        "pools": [dict(pool(1, 1, 10), kind=placing)],
-        "rules": [rule],
-        "version": 2,
-    }
+    steps = [["set_choose_tries", 200], ["set_chooseleaf_tries", 200]] + block * 4
+    pools, every = [pool(1, 1, 10, placing)], osds(device, weight=0)
+    return whole(buckets, [rule(steps, kind=placing)], pools, every, epoch=1, version=2)
 
 
 def one_host(kind: str = "list") -> dict[Any, Any]:
@@ -114,16 +107,8 @@ def one_host(kind: str = "list") -> dict[Any, Any]:
     ]
     buckets.append({"id": -15, "items": [[i, 65536] for i in range(64)], "kind": kind, "type": 1})
     block = [["take", -1], ["chooseleaf_firstn", 0, 1], ["emit"]]
-    rule = {"id": 0, "kind": "replicated", "steps": [["set_choose_tries", 200]] + block * 3}
-    return {
-        "buckets": buckets,
-        "epoch": 1,
-        "max_osd": 64,
-        "osds": osds(64),
-        "pools": [pool(1, 256, 10)],
-        "rules": [rule],
-        "version": 2,
-    }
+    steps = [["set_choose_tries", 200]] + block * 3
+    return whole(buckets, [rule(steps)], [pool(1, 256, 10)], osds(64), epoch=1, version=2)
 
 
 def lines(parts: Any, count: Any, first: Any) -> Any:

@@ -1,25 +1,29 @@
-"""A map as the two dumps that Ceph's tools would print of it, with the keys that make them long."""
+"""A map as the two dumps that Ceph's tools would print of it: those of the tools, with the keys that make them long."""
 
 from __future__ import annotations
 
+import os
+import sys
 from typing import Any
 
 import ceph
 
+sys.path.insert(0, os.path.join(os.path.dirname(os.path.dirname(os.path.abspath(__file__))), "tools"))
+from rekhuso.cluster.dump_types import DumpBucket, DumpOsd, DumpPool, DumpRule  # noqa: E402
+from rekhuso.cluster.map_dumps import crush_dump_of, osd_dump_of  # noqa: E402
+from rekhuso.cluster.shadows import total  # noqa: E402
+
 TYPES = dict(enumerate("osd host chassis rack row pdu pod room datacenter zone region root".split()))
 TUNABLES: dict[str, Any] = {**ceph.TUNABLES, "allowed_bucket_algs": 54, "profile": "jewel"}
 ADDRESSES = ("public", "cluster", "heartbeat_back", "heartbeat_front")
-KINDS = {"replicated": 1, "erasure": 3}
 
 
-def osd_entry(osd: Any) -> Any:
-    """An OSD of an OSD dump."""
-    found = {
-        "osd": osd["id"],
-        "uuid": f"00000000-0000-0000-0000-{osd['id']:012x}",
-        "up": int(osd["up"]),
-        "in": int(osd["weight"] > 0),
-        "weight": osd["weight"] / 65536,
+def osd_entry(own: DumpOsd) -> dict[str, Any]:
+    """An OSD of an OSD dump with what else Ceph prints of it."""
+    number = own["osd"]
+    more = {
+        "uuid": f"00000000-0000-0000-0000-{number:012x}",
+        "in": int(own["weight"] > 0),
         "primary_affinity": 1,
         "last_clean_begin": 0,
         "last_clean_end": 0,
@@ -30,45 +34,30 @@ def osd_entry(osd: Any) -> Any:
         "state": ["exists", "up"],
     }
     for at, name in enumerate(ADDRESSES):
-        address = f"10.{at}.{osd['id'] // 256}.{osd['id'] % 256}:6800"
-        entries = [{"type": kind, "addr": address, "nonce": osd["id"]} for kind in ("v2", "v1")]
-        found.update({f"{name}_addrs": {"addrvec": entries}, f"{name}_addr": f"{address}/{osd['id']}"})
-    return found
+        address = f"10.{at}.{number // 256}.{number % 256}:6800"
+        entries = [{"type": kind, "addr": address, "nonce": number} for kind in ("v2", "v1")]
+        more.update({f"{name}_addrs": {"addrvec": entries}, f"{name}_addr": f"{address}/{number}"})
+    return {**own, **more}
 
 
-def pool_entry(pool: Any) -> dict[Any, Any]:
-    """A pool of an OSD dump."""
-    return {
-        "pool": pool["id"],
-        "pool_name": f"pool{pool['id']}",
+def pool_entry(own: DumpPool) -> dict[str, Any]:
+    """A pool of an OSD dump with what else Ceph prints of it."""
+    more = {
         "create_time": "2026-01-01T00:00:00.000000+0000",
-        "flags": 1,
         "flags_names": "hashpspool",
-        "type": KINDS[pool["kind"]],
-        "size": pool["size"],
-        "min_size": pool["size"] - 1,
-        "crush_rule": pool["rule"],
+        "min_size": own["size"] - 1,
         "object_hash": 2,
-        "pg_num": pool["pg_num"],
-        "pg_placement_num": pool["pgp_num"],
         "options": {},
         "application_metadata": {"rbd": {}},
     }
+    return {**own, **more}
 
 
-def osd_dump(stated: Any) -> dict[Any, Any]:
+def osd_dump(stated: Any) -> dict[str, Any]:
     """What `ceph osd dump -f json` would print of a map without exceptions, as a value."""
-    return {
-        "epoch": stated["epoch"],
-        "fsid": "00000000-0000-0000-0000-000000000000",
-        "max_osd": stated["max_osd"],
-        "pools": list(map(pool_entry, stated["pools"])),
-        "osds": list(map(osd_entry, stated["osds"])),
-        "pg_upmap": [],
-        "pg_upmap_items": [],
-        "pg_temp": [],
-        "primary_temp": [],
-    }
+    own = osd_dump_of(stated, {"pools": {str(pool["id"]): f"pool{pool['id']}" for pool in stated["pools"]}})
+    more = {"fsid": "00000000-0000-0000-0000-000000000000", "pg_temp": [], "primary_temp": []}
+    return {**own, **more, "pools": list(map(pool_entry, own["pools"])), "osds": list(map(osd_entry, own["osds"]))}
 
 
 def name_of(bucket: Any) -> str:
@@ -76,51 +65,28 @@ def name_of(bucket: Any) -> str:
     return f"{TYPES[bucket['type']]}{-bucket['id']}"
 
 
-def step_entry(step: Any, names: Any) -> Any:
-    """A step of a rule of a CRUSH dump."""
-    if step[0] == "take":
-        return {"op": "take", "item": step[1], "item_name": names[step[1]]}
-    if step[0].startswith("set_"):
-        return {"op": step[0], "num": step[1]}
-    return {"op": "emit"} if step[0] == "emit" else {"op": step[0], "num": step[1], "type": TYPES[step[2]]}
+def bucket_entry(own: DumpBucket) -> dict[str, Any]:
+    """A bucket of a CRUSH dump with what else Ceph prints of it."""
+    more = {"type_name": TYPES[own["type_id"]], "weight": total(own), "hash": "rjenkins1"}
+    return {**own, **more, "items": [{**item, "pos": at} for at, item in enumerate(own["items"])]}
 
 
-def bucket_entry(bucket: Any, names: Any) -> dict[Any, Any]:
-    """A bucket of a CRUSH dump."""
-    items = [{"id": item, "weight": weight, "pos": at} for at, (item, weight) in enumerate(bucket["items"])]
-    return {
-        "id": bucket["id"],
-        "name": names[bucket["id"]],
-        "type_id": bucket["type"],
-        "type_name": TYPES[bucket["type"]],
-        "weight": sum(weight for _, weight in bucket["items"]),
-        "alg": bucket["kind"],
-        "hash": "rjenkins1",
-        "items": items,
-    }
+def rule_entry(own: DumpRule) -> dict[str, Any]:
+    """A rule of a CRUSH dump with what else Ceph prints of it, and the types that it chooses by their names."""
+    steps = [{**step, "type": TYPES[int(step["type"])]} if "type" in step else step for step in own["steps"]]
+    return {**own, "ruleset": own["rule_id"], "min_size": 1, "max_size": 10, "steps": steps}
 
 
-def rule_entry(rule: Any, names: Any) -> dict[Any, Any]:
-    """A rule of a CRUSH dump."""
-    return {
-        "rule_id": rule["id"],
-        "rule_name": f"rule{rule['id']}",
-        "ruleset": rule["id"],
-        "type": KINDS[rule["kind"]],
-        "min_size": 1,
-        "max_size": 10,
-        "steps": [step_entry(step, names) for step in rule["steps"]],
-    }
-
-
-def crush_dump(stated: Any) -> dict[Any, Any]:
+def crush_dump(stated: Any) -> dict[str, Any]:
     """What `ceph osd crush dump` would print of a map, as a value."""
-    names = {bucket["id"]: name_of(bucket) for bucket in stated["buckets"]}
+    names = {str(bucket["id"]): name_of(bucket) for bucket in stated["buckets"]}
+    rules = {str(rule["id"]): f"rule{rule['id']}" for rule in stated["rules"]}
+    own = crush_dump_of(stated, {"buckets": names, "rules": rules})
     return {
-        "devices": [{"id": osd["id"], "name": f"osd.{osd['id']}", "class": "ssd"} for osd in stated["osds"]],
+        **own,
+        "devices": [{**device, "class": "ssd"} for device in own["devices"]],
         "types": [{"type_id": number, "name": name} for number, name in TYPES.items()],
-        "buckets": [bucket_entry(bucket, names) for bucket in stated["buckets"]],
-        "rules": [rule_entry(rule, names) for rule in stated["rules"]],
+        "buckets": list(map(bucket_entry, own["buckets"])),
+        "rules": list(map(rule_entry, own["rules"])),
         "tunables": TUNABLES,
-        "choose_args": {},
     }

@@ -1,4 +1,5 @@
-"""The maps that the benches run over."""
+"""The maps that the benches run over, and what they read of maps. The keys of a map, an OSD and a pool stand here once,
+for all benches."""
 
 from __future__ import annotations
 
@@ -7,28 +8,40 @@ from typing import Any
 # The kinds that every map may have, and all: straw2 the program takes where it is told to.
 PLAIN = ("uniform", "list", "tree")
 KINDS = (*PLAIN, "straw2")
+# The whole share of an OSD.
+FULL = 65536
 
 
-def osds(count: Any) -> list[Any]:
-    return [{"exists": True, "id": i, "up": True, "weight": 65536} for i in range(count)]
+def osds(count: Any, weight: int = FULL) -> list[Any]:
+    """So many OSDs that are up, with a reweight."""
+    return [osd(number, weight=weight) for number in range(count)]
 
 
-def pool(number: int, groups: Any, size: int = 3) -> dict[Any, Any]:
-    return {"id": number, "kind": "replicated", "pg_num": groups, "pgp_num": groups, "rule": 0, "size": size}
+def osd(number: int, is_up: bool = True, weight: int = FULL) -> dict[str, Any]:
+    """An OSD that is there."""
+    return {"exists": True, "id": number, "up": is_up, "weight": weight}
+
+
+def pool(number: int, groups: Any, size: int = 3, kind: str = "replicated", rule: int = 0) -> dict[Any, Any]:
+    """A pool that places as many groups as it has."""
+    return {"id": number, "kind": kind, "pg_num": groups, "pgp_num": groups, "rule": rule, "size": size}
+
+
+def rule(steps: Any, number: int = 0, kind: str = "replicated") -> dict[str, Any]:
+    """A rule."""
+    return {"id": number, "kind": kind, "steps": steps}
+
+
+def whole(buckets: Any, rules: Any, pools: Any, osds: Any, **more: Any) -> dict[Any, Any]:
+    """A map with room for these OSDs alone, of version 1 unless `more` says another."""
+    own = {"buckets": buckets, "epoch": 100_000, "max_osd": len(osds), "osds": osds, "pools": pools, "rules": rules}
+    return {**own, "version": 1, **more}
 
 
 def a_map(buckets: Any, count: Any, steps: Any, pools: Any, groups: Any) -> dict[Any, Any]:
     """A map of so many devices and pools of so many groups each, under one rule."""
-    rule = {"id": 0, "kind": "replicated", "steps": [["take", -1]] + steps + [["emit"]]}
-    return {
-        "buckets": buckets,
-        "epoch": 100_000,
-        "max_osd": count,
-        "osds": osds(count),
-        "pools": [pool(number, groups) for number in range(1, pools + 1)],
-        "rules": [rule],
-        "version": 1,
-    }
+    own = [pool(number, groups) for number in range(1, pools + 1)]
+    return whole(buckets, [rule([["take", -1]] + steps + [["emit"]])], own, osds(count))
 
 
 def flat(kind: str, groups: Any, pools: Any = 1) -> Any:
@@ -107,18 +120,9 @@ def stock(racks: Any, hosts: Any, disks: Any, pools: Any) -> dict[Any, Any]:
         [*tries, ["take", -1], ["chooseleaf_indep", 0, 3]],
     ]
     kinds = ["replicated", "replicated", "erasure"]
-    return {
-        "buckets": buckets,
-        "epoch": 100_000,
-        "max_osd": count,
-        "osds": osds(count),
-        "version": 2,
-        "pools": [
-            dict(pool(number, groups, size), kind=kinds[rule], rule=rule)
-            for number, (groups, size, rule) in enumerate(pools, 1)
-        ],
-        "rules": [{"id": number, "kind": kinds[number], "steps": [*own, ["emit"]]} for number, own in enumerate(steps)],
-    }
+    rules = [rule([*own, ["emit"]], number, kinds[number]) for number, own in enumerate(steps)]
+    own = [pool(number, groups, size, kinds[by], by) for number, (groups, size, by) in enumerate(pools, 1)]
+    return whole(buckets, rules, own, osds(count), version=2)
 
 
 SHAPES = (
@@ -126,3 +130,74 @@ SHAPES = (
     ("1,024 OSDs, 511 buckets, 3 levels", levels),
     ("64 OSDs in one bucket", flat),
 )
+
+
+# What benches read of maps
+
+
+def groups_in(pool: Any) -> list[str]:
+    """All groups of a pool."""
+    return [f"{pool['id']}.{number:x}" for number in range(pool["pg_num"])]
+
+
+def groups_of(stated: Any) -> list[str]:
+    """All groups of a map, pool by pool."""
+    return [group for own in stated["pools"] for group in groups_in(own)]
+
+
+def weights_of(stated: Any) -> dict[int, int]:
+    """The weight of each item of the buckets."""
+    return {item: weight for bucket in stated["buckets"] for item, weight in bucket["items"]}
+
+
+def reweights_of(stated: Any) -> dict[int, int]:
+    """The reweight of each OSD that is up."""
+    return {own["id"]: own["weight"] for own in stated["osds"] if own["up"]}
+
+
+def trees_of(stated: Any, pool: Any) -> list[set[int]]:
+    """The OSDs below what the rule of a pool takes, tree by tree; trees that have OSDs in common are one."""
+    below = {bucket["id"]: [item for item, _ in bucket["items"]] for bucket in stated["buckets"]}
+
+    def reached(number: int) -> set[int]:
+        return {number} if number >= 0 else {osd for item in below[number] for osd in reached(item)}
+
+    trees: list[set[int]] = []
+    for step in next(own["steps"] for own in stated["rules"] if own["id"] == pool["rule"]):
+        if step[0] == "take":
+            own = reached(step[1])
+            trees = [tree for tree in trees if not tree & own] + [own.union(*(tree for tree in trees if tree & own))]
+    return trees
+
+
+def with_all_up(stated: Any) -> dict[Any, Any]:
+    """The map with every OSD up that is there."""
+    return dict(stated, osds=[dict(own, up=own["exists"]) for own in stated["osds"]])
+
+
+def exceptions_of(stated: Any) -> tuple[list[Any], list[Any]]:
+    """The explicit sets and the pairs of a map."""
+    return stated.get("pg_upmap", []), stated.get("pg_upmap_items", [])
+
+
+def with_commands(stated: Any, lines: Any) -> dict[Any, Any]:
+    """A map once Ceph's commands for its groups are given, its exceptions in the order of their groups."""
+    explicit, items = (dict(entries) for entries in exceptions_of(stated))
+    pools = {str(own["id"]) for own in stated["pools"]}
+    for line in lines:
+        _, _, word, group, *osds = line.split()
+        own = items if word.endswith("-items") else explicit
+        if group.split(".")[0] in pools:
+            own.pop(group, None)
+            if not word.startswith("rm-"):
+                numbers = list(map(int, osds))
+                pairs = [list(pair) for pair in zip(numbers[::2], numbers[1::2])]
+                own[group] = numbers if own is explicit else pairs
+    sets, pairs_of = ([[group, own[group]] for group in sorted(own, key=place_of)] for own in (explicit, items))
+    return dict(stated, pg_upmap=sets, pg_upmap_items=pairs_of)
+
+
+def place_of(group: str) -> tuple[int, int]:
+    """Where a group stands among all."""
+    pool, number = group.split(".")
+    return int(pool), int(number, 16)

@@ -26,10 +26,11 @@ from collections.abc import Iterator
 from concurrent.futures import ThreadPoolExecutor
 from typing import Any
 
+from maps import groups_in
 from random_clusters import drawn
 from running import Folder, heading, in_folder, program_at, table
 from tools import commands, words
-from whole_cluster import Cluster, folders, groups_in
+from whole_cluster import Cluster, folders
 
 WAYS = ("", "--df", "--df --pgs --osds", "--df --room", "--df --pgs --osds --room", "--alone")
 PLANS, LIMIT, KIB = 5, 900, 1024

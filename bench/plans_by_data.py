@@ -23,9 +23,10 @@ from collections.abc import Iterator
 from typing import Any
 
 from least import Least, Places
+from maps import groups_in
 from running import Folder, heading, in_folder, program_at, table
 from tools import TOOLS, words
-from whole_cluster import Cluster, folders, groups_in, ran
+from whole_cluster import Cluster, folders, ran
 
 sys.path.insert(0, os.path.dirname(TOOLS))
 from rekhuso.plans.blocks import MapBlocks  # noqa: E402

@@ -11,6 +11,7 @@ from collections.abc import Callable, Iterator
 from dataclasses import dataclass, field
 from typing import Any
 
+import maps
 from dumps import crush_dump, osd_dump
 
 OSD, HOST, RACK, ROOM, ROOT = 0, 1, 3, 7, 11
@@ -168,9 +169,7 @@ def pools_of(rng: random.Random, rules: list[Rule]) -> list[dict[str, Any]]:
         groups, places = groups + count, places + count * size
         if groups > GROUPS or places > PLACES:
             break
-        found.append(
-            {"id": number, "kind": own.kind, "pg_num": count, "pgp_num": count, "rule": rule, "size": max(size, 2)}
-        )
+        found.append(maps.pool(number, count, max(size, 2), own.kind, rule))
     return found
 
 
@@ -181,7 +180,7 @@ def osds_of(rng: random.Random, tree: Tree) -> list[dict[str, Any]]:
     for osd in range(len(tree.weights)):
         weight = round(ONE * rng.uniform(0.4, 1.0)) if rng.random() < reweighted else ONE
         weight = 0 if rng.random() < out else weight
-        found.append({"exists": True, "id": osd, "up": rng.random() >= down, "weight": weight})
+        found.append(maps.osd(osd, rng.random() >= down, weight))
     return found
 
 
@@ -193,14 +192,9 @@ def drawn(seed: int) -> tuple[dict[str, Any], dict[str, Any]]:
     names = sorted(set(tree.classes)) if len(set(tree.classes)) > 1 else []
     roots = [root, *(tree.shadow(root, name)[0] for name in names)]
     rules = list(rules_of(tree, roots))
-    stated = {
-        "buckets": tree.buckets,
-        "epoch": 1000,
-        "max_osd": len(tree.weights),
-        "osds": osds_of(rng, tree),
-        "pools": pools_of(rng, rules),
-        "rules": [{"id": at, "kind": own.kind, "steps": own.steps} for at, own in enumerate(rules)],
-    }
+    osds, pools = osds_of(rng, tree), pools_of(rng, rules)
+    stated_rules = [maps.rule(own.steps, at, own.kind) for at, own in enumerate(rules)]
+    stated = maps.whole(tree.buckets, stated_rules, pools, osds, epoch=1000)
     crush = crush_dump(stated)
     called = {own["id"]: own["name"] for own in crush["buckets"]}
     for bucket, own in zip(crush["buckets"], tree.buckets):

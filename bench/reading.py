@@ -14,42 +14,32 @@ import json
 from collections.abc import Iterator
 from typing import Any
 
+from maps import osds, whole
 from running import Folder, found, greatest, heading, in_folder, judged, program, table
 
 GOAL = 12
 GROUPS = [f"{pool}.{number:x}" for pool in range(1, 33) for number in range(4096)]
 
 
-def stated(part: str = "") -> Any:
-    """A map that no map may be: its epoch is 0."""
-    return '{"buckets":[],"epoch":0,"max_osd":1,"osds":[],"pools":[],"rules":[],"version":1' + part + "}"
-
-
-def listed(entries: Any) -> Any:
-    return json.dumps(entries, separators=(",", ":"))
+def text_of(**parts: Any) -> str:
+    """The text of a map that no map may be, with some of its parts: its epoch is 0."""
+    return json.dumps({**whole([], [], [], [], epoch=0, max_osd=1), **parts}, separators=(",", ":"))
 
 
 def exceptions(places: Any) -> str:
-    """Explicit sets and pairs of so many places, for each of 131,072 groups."""
+    """The text of such a map with explicit sets and pairs of so many places, for each of 131,072 groups."""
     sets: Any = [[group, [(at + place) % 1024 for place in range(places)]] for at, group in enumerate(GROUPS)]
-    pairs = [[group, [[osd, 1023 - osd] for osd in some]] for group, some in sets]
-    return f',"pg_upmap":{listed(sets)},"pg_upmap_items":{listed(pairs)}'
+    return text_of(pg_upmap=sets, pg_upmap_items=[[group, [[osd, 1023 - osd] for osd in some]] for group, some in sets])
 
 
 def texts() -> Iterator[Any]:
     """What is read, and the map's text."""
-    yield "262,144 exceptions of 3 places", stated(exceptions(3))
-    yield "262,144 exceptions of 10 places", stated(exceptions(10))
-    yield "131,072 sets of 33 numbers", stated(
-        f',"pg_upmap":{listed([[group, [at % 1024] * 33] for at, group in enumerate(GROUPS)])}'
-    )
-    yield "one set of 10,000,000 numbers of one digit", stated(
-        ',"pg_upmap":[["1.0",[' + ",".join("1" * 10_000_000) + "]]]"
-    )
-    yield "1,000,000 OSDs", stated().replace(
-        '"osds":[]',
-        '"osds":' + listed([{"exists": True, "id": at, "up": True, "weight": 65536} for at in range(1_000_000)]),
-    )
+    yield "262,144 exceptions of 3 places", exceptions(3)
+    yield "262,144 exceptions of 10 places", exceptions(10)
+    sets = [[group, [at % 1024] * 33] for at, group in enumerate(GROUPS)]
+    yield "131,072 sets of 33 numbers", text_of(pg_upmap=sets)
+    yield "one set of 10,000,000 numbers of one digit", text_of(pg_upmap=[["1.0", [1] * 10_000_000]])
+    yield "1,000,000 OSDs", text_of(osds=osds(1_000_000))
 
 
 def rows(runs: Folder) -> Iterator[Any]:

@@ -21,7 +21,7 @@ from typing import Any
 
 import ceph
 from dumps import crush_dump, osd_dump
-from maps import PLAIN, few_hosts, levels
+from maps import PLAIN, exceptions_of, few_hosts, levels, with_commands
 from running import GOALS, LIMIT, Folder, found, goal_row, heading, in_folder, judged, output, program, several, table
 
 TOOLS = os.path.join(os.path.dirname(os.path.dirname(os.path.abspath(__file__))), "tools", "rekhuso")
@@ -84,24 +84,6 @@ def commands(output: str) -> list[Any]:
     return [line for line in output.splitlines() if line.startswith("ceph osd ") and "pg-upmap" in line]
 
 
-def with_commands(stated: Any, lines: Any) -> list[Any]:
-    """The explicit sets and the pairs of a map once Ceph's commands are given."""
-    explicit: dict[str, Any] = dict(stated.get("pg_upmap", []))
-    items: dict[str, Any] = dict(stated.get("pg_upmap_items", []))
-    for line in lines:
-        _, _, word, group, *osds = line.split(" ")
-        own = items if word.endswith("-items") else explicit
-        own.pop(group, None)
-        if not word.startswith("rm-"):
-            numbers = list(map(int, osds))
-            pairs = [list(pair) for pair in zip(numbers[::2], numbers[1::2])]
-            own[group] = numbers if own is explicit else pairs
-    return [
-        [[group, part[group]] for group in sorted(part, key=lambda group: int(group.split(".")[1], 16))]
-        for part in (explicit, items)
-    ]
-
-
 def pinned(kind: str, groups: Any) -> Any:
     """64 OSDs in 8 hosts, and some groups with explicit sets on the first OSDs of three hosts."""
     stated = few_hosts(kind, groups)
@@ -112,11 +94,10 @@ def judged_plan(runs: Folder, stated: Any, given: Any) -> list[Any]:
     """The commands of a plan, the groups that Ceph places otherwise after them, and the commands that it would take
     back."""
     lines = commands(said(words(runs, "plan", runs.map(stated), *given)))
-    explicit, items = with_commands(stated, lines)
+    after = with_commands(stated, lines)
     path = ceph.osdmap(stated, runs.folder)
-    ceph.with_exceptions(path, explicit, items)
-    after = runs.map(dict(stated, pg_upmap=explicit, pg_upmap_items=items))
-    asked = output(runs.words(after, "".join(f"up 1.{group:x}\n" for group in range(GROUPS))))
+    ceph.with_exceptions(path, *exceptions_of(after))
+    asked = output(runs.words(runs.map(after), "".join(f"up 1.{group:x}\n" for group in range(GROUPS))))
     ours = [answer.split(" ")[3] for answer in asked]
     theirs = ceph.sets(path)
     unlike = sum(one != other for one, other in zip(ours, theirs)) + abs(len(ours) - len(theirs))

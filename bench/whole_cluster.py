@@ -32,6 +32,7 @@ import time
 from collections.abc import Iterator
 from typing import Any
 
+from maps import groups_in, groups_of, reweights_of, trees_of, weights_of, with_all_up, with_commands
 from running import Folder, heading, in_folder, output, program_at, table
 from tools import commands, words
 
@@ -71,11 +72,6 @@ def ran(command: Any) -> tuple[Any, Any]:
     return done.stdout if done.returncode == 0 else None, time.perf_counter() - begin
 
 
-def groups_in(pool: Any) -> list[Any]:
-    """All groups of a pool."""
-    return [f"{pool['id']}.{number:x}" for number in range(pool["pg_num"])]
-
-
 class Cluster:
     """A cluster with its maps, made-up data, and what of it is measured."""
 
@@ -94,11 +90,7 @@ class Cluster:
         }
         self.pools = {pool["id"]: (value, pool) for value in self.maps for pool in value["pools"]}
         self.weights = {
-            item: weight / 65536
-            for value in self.maps
-            for bucket in value["buckets"]
-            for item, weight in bucket["items"]
-            if item >= 0
+            item: weight / 65536 for value in self.maps for item, weight in weights_of(value).items() if item >= 0
         }
         self.trees = {number: self.trees_of(*own) for number, own in self.pools.items()}
         self.start = self.sets([]) if self.maps else {}
@@ -116,28 +108,18 @@ class Cluster:
 
     def trees_of(self, value: Any, pool: Any) -> list[Any]:
         """The weights of the OSDs that may have groups of a pool, tree by tree of its rule."""
-        below = {bucket["id"]: [item for item, _ in bucket["items"]] for bucket in value["buckets"]}
-
-        def osds(number: int) -> Any:
-            return {number} if number >= 0 else {osd for item in below[number] for osd in osds(item)}
-
-        weights = {osd["id"]: osd["weight"] for osd in value["osds"] if osd["up"]}
-        trees: list[Any] = []
-        for step in next(rule["steps"] for rule in value["rules"] if rule["id"] == pool["rule"]):
-            if step[0] == "take":
-                own = osds(step[1])
-                trees = [tree for tree in trees if not tree & own] + [
-                    own.union(*(tree for tree in trees if tree & own))
-                ]
-        return [{osd: self.weights[osd] * weights[osd] for osd in tree if weights.get(osd)} for tree in trees]
+        weights = reweights_of(value)
+        return [
+            {osd: self.weights[osd] * weights[osd] for osd in tree if weights.get(osd)}
+            for tree in trees_of(value, pool)
+        ]
 
     def sets(self, lines: Any, is_up: bool = False) -> Any:
         """The up set of each group once commands are given; also as it is where all OSDs are up."""
         found = {}
         for value in self.maps:
-            asked = [group for pool in value["pools"] for group in groups_in(pool)]
-            own = dict(value, osds=[dict(osd, up=osd["exists"]) for osd in value["osds"]]) if is_up else value
-            path = self.runs.map(with_lines(own, lines))
+            asked = groups_of(value)
+            path = self.runs.map(with_commands(with_all_up(value) if is_up else value, lines))
             answers = output(self.runs.words(path, "".join(f"up {group}\n" for group in asked)))
             for group, answer in zip(asked, answers):
                 found[group] = [
@@ -299,26 +281,6 @@ class Cluster:
             for number, place in self.places.items()
         )
         return sum(places.values()), 100 * size / max(total, 1)
-
-
-def with_lines(value: Any, lines: Any) -> Any:
-    """A map once Ceph's commands for its groups are given."""
-    explicit: dict[str, Any] = dict(value["pg_upmap"])
-    items: dict[str, Any] = dict(value["pg_upmap_items"])
-    pools = {str(pool["id"]) for pool in value["pools"]}
-    for line in lines:
-        _, _, word, group, *osds = line.split(" ")
-        own, numbers = items if word.endswith("-items") else explicit, [int(osd) for osd in osds if osd]
-        if group.split(".")[0] in pools:
-            own.pop(group, None)
-            if not word.startswith("rm-"):
-                pairs = [list(pair) for pair in zip(numbers[::2], numbers[1::2])]
-                own[group] = numbers if own is explicit else pairs
-    return dict(
-        value,
-        pg_upmap=[list(entry) for entry in explicit.items()],
-        pg_upmap_items=[list(entry) for entry in items.items()],
-    )
 
 
 COLUMNS = [
