@@ -17,6 +17,7 @@ from collections.abc import Iterator
 from typing import Any
 
 from balancer import EVEN, GROUPS, MOVES
+from changes import STATES, changes
 from maps import PLAIN, levels
 from running import Folder, heading, in_folder, once, program, program_at, row, table
 
@@ -43,15 +44,13 @@ def opened(folders: Any, kind: str) -> list[Any]:
 
 def rows(folders: Any) -> Iterator[Any]:
     """Each thing with what it takes by both."""
-    changes = "".join(
-        f'change {{"base":{FIRST + at},"{"up" if at % 2 else "down"}":[5]}}\n' for at in range(LINES // 10)
-    )
+    made = changes(STATES, LINES // 10, FIRST)
     for kind in PLAIN:
         yield row(f"opening 32 pools of {GROUPS:,} groups over 1,024 OSDs, {kind}", opened, folders, kind)
     for name, script in (
         (f"{LINES:,} lines `up`", "".join(f"up 1.{line % GROUPS:x}\n" for line in range(LINES))),
         (f"{LINES:,} lines `epoch`", "epoch\n" * LINES),
-        (f"{LINES // 10:,} changes, one OSD down or up", changes),
+        (f"{LINES // 10:,} changes, one OSD down or up", made),
     ):
         yield row(name, compared, folders, levels("uniform", GROUPS), script)
     for name, shape, _ in EVEN:

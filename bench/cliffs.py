@@ -20,7 +20,8 @@ from collections.abc import Iterator
 from typing import Any
 
 import stuck
-from maps import a_map, flat, osds, paired, pool, rule, stock, whole
+from changes import STATES, changes, comes_and_goes, pairs_of, replaced, reweights
+from maps import a_map, flat, groups_of, osds, paired, pool, rule, stock, whole
 from running import (
     GOALS,
     LIMIT,
@@ -111,17 +112,12 @@ def one_host(kind: str = "list") -> dict[Any, Any]:
     return whole(buckets, [rule(steps)], [pool(1, 256, 10)], osds(64), epoch=1, version=2)
 
 
-def lines(parts: Any, count: Any, first: Any) -> Any:
-    """Lines of changes, by the parts in turn."""
-    return "".join(f'change {{"base":{first + at},{parts[at % len(parts)]}}}\n' for at in range(count))
-
-
 def a_change(runs: Folder, stated: Any, parts: Any, count: Any) -> Any:
     """The microseconds of a change beyond the same line refused."""
     return (
         (
-            seconds(runs.words(stated, lines(parts, count, 100_000)))
-            - seconds(runs.words(stated, lines(parts, count, 900_000)))
+            seconds(runs.words(stated, changes(parts, count, 100_000)))
+            - seconds(runs.words(stated, changes(parts, count, 900_000)))
         )
         / count
         * 1e6
@@ -130,12 +126,12 @@ def a_change(runs: Folder, stated: Any, parts: Any, count: Any) -> Any:
 
 def a_pair(runs: Folder, stated: Any, count: Any) -> Any:
     """The microseconds of a change that replaces a group's pair."""
-    return a_change(runs, stated, [f'"new_items":[["{MIDDLE}",[[{osd},63]]]]' for osd in (61, 60)], count)
+    return a_change(runs, stated, replaced(MIDDLE), count)
 
 
 def a_key(runs: Folder, stated: Any, count: Any) -> Any:
     """The microseconds of a change by which a group's pair comes or goes."""
-    return a_change(runs, stated, [f'"new_items":[["{MIDDLE}",[[61,63]]]]', f'"old_items":["{MIDDLE}"]'], count)
+    return a_change(runs, stated, comes_and_goes(MIDDLE), count)
 
 
 def wide_pools(count: int, size: int, groups: int = 65_536, pools: int = 1) -> Any:
@@ -158,8 +154,7 @@ def other_sets(stated: Any) -> str:
 
 def a_pair_each(stated: Any) -> str:
     """The part of a change that gives each group of all pools a pair."""
-    pairs = [[f"{own['id']}.{group:x}", [[62, 63]]] for own in stated["pools"] for group in range(own["pg_num"])]
-    return f'"new_items":{json.dumps(pairs, separators=(",", ":"))}'
+    return pairs_of(groups_of(stated), 62)
 
 
 def many_at_once(runs: Folder) -> Iterator[Any]:
@@ -195,8 +190,8 @@ def longest_rows(runs: Folder) -> Iterator[Any]:
     fewest, pools = without_pools(most)
     one, wide = wide_pools(64, 3, 1, 256), wide_pools(40, 20)
     for name, value, part in (
-        ("a reweight of one OSD, 1,048,576 groups of 256 pools", most, '"weight":[[0,32768]]'),
-        ("a reweight of one OSD, 65,536 groups of size 20 over 40 OSDs", wide, '"weight":[[0,32768]]'),
+        ("a reweight of one OSD, 1,048,576 groups of 256 pools", most, reweights(0)[0]),
+        ("a reweight of one OSD, 65,536 groups of size 20 over 40 OSDs", wide, reweights(0)[0]),
         ("another CRUSH map, 1,048,576 groups of 256 pools", most, another_crush(most)),
         ("255 pools of 4,096 groups that come", fewest, pools),
         ("a pair for each of 1,048,576 groups", most, a_pair_each(most)),
@@ -210,7 +205,7 @@ def kept(runs: Folder) -> Any:
     """The bytes that a change takes in the journal."""
 
     def beyond_refused(count: Any) -> Any:
-        scripts = [lines(['"down":[5]', '"up":[5]'], count, first) for first in (100_000, 900_000)]
+        scripts = [changes(STATES, count, first) for first in (100_000, 900_000)]
         taken, refused = (greatest(runs.words(stated, script)) for script in scripts)
         return taken - refused
 

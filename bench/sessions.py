@@ -29,6 +29,7 @@ import time
 from collections.abc import Iterator
 from typing import Any
 
+from changes import STATES, change
 from maps import few_hosts
 from running import (
     GOALS,
@@ -68,18 +69,19 @@ def looks(word: str) -> Any:
     return "".join((f"up 1.{line % GROUPS:x}\n" if word == "up" else f"{word}\n") for line in range(LOOKS))
 
 
-def change(base: Any) -> str:
-    return f'change {{"base":{base},"{"up" if base % 2 else "down"}":[5]}}\n'
+def state(base: int) -> str:
+    """A session's change at a base."""
+    return change(base, STATES[base % 2])
 
 
 def in_turn(session: int, sessions: int) -> Any:
     """A session's changes: one for each base."""
-    return "".join(change(FIRST + line) for line in range(CHANGES))
+    return "".join(state(FIRST + line) for line in range(CHANGES))
 
 
 def handed_on(session: int, sessions: int) -> Any:
     """A session's changes, each for the epoch that another session's leads to."""
-    return "".join(f"await {base}\n{change(base)}" for base in range(FIRST + session, FIRST + TURNS, sessions))
+    return "".join(f"await {base}\n{state(base)}" for base in range(FIRST + session, FIRST + TURNS, sessions))
 
 
 def spent(runs: Folder, stated: Any, scripts: Any) -> Any:
@@ -136,7 +138,7 @@ def crowd_rows(runs: Folder, stated: Any) -> Iterator[Any]:
 
 def chained(session: int) -> Any:
     """A session's changes, each for the epoch that the one before leads to."""
-    return "".join(f"await {base}\n{change(base)}" for base in range(FIRST + session, FIRST + ROUNDS * MOST, MOST))
+    return "".join(f"await {base}\n{state(base)}" for base in range(FIRST + session, FIRST + ROUNDS * MOST, MOST))
 
 
 def awaited(runs: Folder, stated: Any, made: Any, text: Any) -> Any:
@@ -147,7 +149,7 @@ def awaited(runs: Folder, stated: Any, made: Any, text: Any) -> Any:
 
 def await_rows(runs: Folder, stated: Any) -> Iterator[Any]:
     """Sessions that await epochs."""
-    made, few = in_turn(0, 1), "".join(change(base) for base in range(FIRST, FIRST + 1000))
+    made, few = in_turn(0, 1), "".join(state(base) for base in range(FIRST, FIRST + 1000))
     yield goal_row(
         f"{MOST - 1} await the last of {CHANGES:,} epochs, to as many empty scripts",
         lambda: median(lambda: awaited(runs, stated, made, f"await {FIRST + CHANGES}\n")),
@@ -183,7 +185,7 @@ def behind(runs: Folder, stated: Any) -> Any:
         answer = live.stdout.readline()
         while answer and len(os.listdir(f"/proc/{live.pid}/task")) > MOST:
             begin = time.perf_counter()
-            live.stdin.write(change(FIRST + len(times)).encode())
+            live.stdin.write(state(FIRST + len(times)).encode())
             live.stdin.flush()
             answer = live.stdout.readline()
             times.append((time.perf_counter() - begin) * 1e3)

@@ -15,6 +15,7 @@ import sys
 from collections.abc import Iterator
 from typing import Any
 
+from changes import STATES, changes, comes_and_goes, moving, pairs_of, replaced, reweights
 from maps import few_hosts, flat, hosts, levels, osds, paired
 from running import Folder, heading, in_folder, instructions, output, program, row, table
 
@@ -23,21 +24,13 @@ EPOCH, STALE = 100_000, 900_000
 SHAPES: tuple[Any, ...] = (flat, levels)
 FEW, MANY, POOLS = 1_024, 4_096, 32
 POOL_COUNTS, OSD_COUNTS = (1, 16, 256), (256, 1_024, 4_096)
-STATES = ['"down":[5]', '"up":[5]']
-# The group in the middle of all groups of 32 pools: its pair replaced by another, and its pair there and not there.
+# The group in the middle of all groups of 32 pools.
 MIDDLE = "16.800"
-REPLACED = [f'"new_items":[["{MIDDLE}",[[{osd},63]]]]' for osd in (61, 60)]
-COMES_AND_GOES = [REPLACED[0], f'"old_items":["{MIDDLE}"]']
 
 
 def a_line(runs: Folder, stated: Any, line: Any, few: Any = 200, many: Any = 1_200) -> Any:
     """The instructions of one line."""
     return (instructions(runs.words(stated, line * many)) - instructions(runs.words(stated, line * few))) / (many - few)
-
-
-def changes(parts: Any, count: Any, first: Any) -> Any:
-    """Lines of changes, by the parts in turn."""
-    return "".join(f'change {{"base":{first + at},{parts[at % len(parts)]}}}\n' for at in range(count))
 
 
 def a_change(runs: Folder, stated: Any, parts: Any, count: Any = 60) -> Any:
@@ -47,13 +40,6 @@ def a_change(runs: Folder, stated: Any, parts: Any, count: Any = 60) -> Any:
     if not last.startswith("ok"):
         sys.exit(f"a change was refused: {last}")
     return (instructions(good) - instructions(runs.words(stated, changes(parts, count, STALE)))) / count
-
-
-def pairs(runs: Folder, stated: Any) -> list[Any]:
-    """Two lists of one pair each for the first group."""
-    places = [int(osd) for osd in output(runs.words(stated, "up 1.0\n"))[0].split()[3].strip("[]").split(",")]
-    others = [osd for osd in range(64) if osd not in places][:2]
-    return [f'"new_items":[["1.0",[[{places[0]},{osd}]]]]' for osd in others]
 
 
 def single_rows(runs: Folder) -> Iterator[Any]:
@@ -74,9 +60,9 @@ def single_rows(runs: Folder) -> Iterator[Any]:
     ):
         yield row(f"a line {name}", lambda: [a_line(runs, stated, line) for stated in large])
     yield row("one OSD down or up", lambda: [a_change(runs, stated, STATES) for stated in large])
-    yield row("one pair of a group", lambda: [a_change(runs, stated, pairs(runs, stated)) for stated in large])
+    yield row("one pair of a group", lambda: [a_change(runs, stated, moving(runs, stated)) for stated in large])
     yield row(
-        "the same in a pool of 32 groups", lambda: [a_change(runs, stated, pairs(runs, stated)) for stated in tiny]
+        "the same in a pool of 32 groups", lambda: [a_change(runs, stated, moving(runs, stated)) for stated in tiny]
     )
 
 
@@ -84,9 +70,12 @@ def list_rows(runs: Folder) -> Iterator[Any]:
     """What a change of one pair costs beside no other exceptions, and beside the most that there may be."""
     none = runs.map(flat("uniform", MANY, POOLS))
     full, lacking = (runs.map(paired(POOLS, without)) for without in ([], [MIDDLE]))
-    yield row("a pair that replaces another", lambda: [a_change(runs, stated, REPLACED) for stated in (none, full)])
     yield row(
-        "a key that comes or goes", lambda: [a_change(runs, stated, COMES_AND_GOES) for stated in (none, lacking)]
+        "a pair that replaces another", lambda: [a_change(runs, stated, replaced(MIDDLE)) for stated in (none, full)]
+    )
+    yield row(
+        "a key that comes or goes",
+        lambda: [a_change(runs, stated, comes_and_goes(MIDDLE)) for stated in (none, lacking)],
     )
 
 
@@ -96,26 +85,16 @@ def pool_rows(runs: Folder) -> Iterator[Any]:
     lasts = [*zip(kinds, POOL_COUNTS)]
     yield row("a line `up`", lambda: [a_line(runs, stated, f"up {last}.7\n") for stated, last in lasts])
     yield row("one OSD down or up", lambda: [a_change(runs, stated, STATES) for stated in kinds])
-    moved = [[f'"new_items":[["{last}.3",[[{osd},63]]]]' for osd in (61, 60)] for last in POOL_COUNTS]
+    moved = [replaced(f"{last}.3") for last in POOL_COUNTS]
     yield row("one pair of a group", lambda: [a_change(runs, *each) for each in zip(kinds, moved)])
-    named = [[pair_each(pools, osd) for osd in (61, 60)] for pools in POOL_COUNTS]
+    groups = [[f"{number}.3" for number in range(1, pools + 1)] for pools in POOL_COUNTS]
+    named = [[pairs_of(own, osd) for osd in (61, 60)] for own in groups]
     yield row("a pair of a group of each pool", lambda: [a_change(runs, *each) for each in zip(kinds, named)])
     spare = [runs.map(with_spare(few_hosts("straw2", 16, pools))) for pools in POOL_COUNTS]
     yield row("a reweight that no rule reaches", lambda: [a_change(runs, stated, reweights(64)) for stated in spare])
     yield row(
         "a reweight that reaches all pools", lambda: [a_change(runs, stated, reweights(5), 6) for stated in kinds]
     )
-
-
-def pair_each(pools: int, osd: int) -> str:
-    """The part of a change that gives a group of each pool a pair."""
-    pairs = ",".join(f'["{number}.3",[[{osd},63]]]' for number in range(1, pools + 1))
-    return f'"new_items":[{pairs}]'
-
-
-def reweights(osd: int) -> list[str]:
-    """Two reweights of an OSD."""
-    return [f'"weight":[[{osd},{weight}]]' for weight in (32_768, 65_536)]
 
 
 def with_spare(stated: Any) -> Any:
@@ -128,7 +107,7 @@ def osd_rows(runs: Folder) -> Iterator[Any]:
     kinds = [runs.map(hosts(count, 16, 1)) for count in OSD_COUNTS]
     yield row("a line `up`", lambda: [a_line(runs, stated, "up 1.0\n") for stated in kinds])
     yield row("one OSD down or up", lambda: [a_change(runs, stated, STATES) for stated in kinds])
-    yield row("one pair of a group", lambda: [a_change(runs, stated, pairs(runs, stated)) for stated in kinds])
+    yield row("one pair of a group", lambda: [a_change(runs, stated, moving(runs, stated)) for stated in kinds])
     yield row("a line `balance`", lambda: [a_line(runs, stated, "balance 1 16\n", 5, 15) for stated in kinds])
 
 

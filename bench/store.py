@@ -27,6 +27,7 @@ import time
 from collections.abc import Iterator
 from typing import Any
 
+from changes import STATES, changes
 from live import answered
 from maps import few_hosts
 from running import (
@@ -52,14 +53,6 @@ PAGE = 4096
 BUILT = pathlib.Path(__file__).resolve().parent.parent / "crates" / "osdmapstore" / "out" / "osdmapstore"
 # A folder whose files are in memory.
 MEMORY = "/dev/shm"
-
-
-def change(base: Any) -> str:
-    return f'change {{"base":{base},"{("down", "up")[base % 2]}":[5]}}\n'
-
-
-def changes(count: Any) -> str:
-    return "".join(change(FIRST + line) for line in range(count))
 
 
 def sync(folder: Any) -> Any:
@@ -97,12 +90,12 @@ class Stores:
 
     def a_change(self, words: Any) -> Any:
         """The microseconds of a change, in runs with some words."""
-        many, none = (self.runs.file(changes(count)) for count in (CHANGES, 0))
+        many, none = (self.runs.file(changes(STATES, count, FIRST)) for count in (CHANGES, 0))
         return (median(lambda: once(words(many)), 3) - median(lambda: once(words(none)), 3)) / CHANGES * 1e6
 
     def looks(self, words: Any, is_beside: Any, heads: Any) -> Any:
         """The microseconds of a question to a live session: the median, and what one in a hundred takes."""
-        script, times = self.runs.file(changes(MOST if is_beside else 0)), []
+        script, times = self.runs.file(changes(STATES, MOST if is_beside else 0, FIRST)), []
         with piped(words("-", script, "--to", "-", "--to", "/dev/null")) as process:
             late = threading.Timer(LIMIT, process.kill)
             late.start()
@@ -125,7 +118,7 @@ class Stores:
         if not os.path.isdir(MEMORY):
             raise Absent(f"no {MEMORY}")
         with tempfile.TemporaryDirectory(dir=MEMORY) as folder:
-            once(self.new(self.runs.file(changes(count)), folder=folder))
+            once(self.new(self.runs.file(changes(STATES, count, FIRST)), folder=folder))
             own = os.path.join(self.runs.folder, "opened")
 
             def open_copy() -> Any:
@@ -160,7 +153,7 @@ def of_opening(stores: Stores) -> Iterator[Any]:
     """What opening takes, and how large the programs are."""
     for count in (0, 1_024, MOST):
         yield row(f"opening a store with {count:,} rows, ms", lambda: stores.opened(count))
-    script = stores.runs.file(changes(MOST))
+    script = stores.runs.file(changes(STATES, MOST, FIRST))
     yield row(f"`osdmapd` over a script of {MOST:,} changes, ms", lambda: once(stores.plain(script)) * 1e3)
     for name, path in (("osdmapd", stores.runs.program), ("osdmapstore", stores.command)):
         yield row(f"the file `{name}`, MB", lambda: os.path.getsize(path) / 1e6)

@@ -19,6 +19,7 @@ import sys
 from collections.abc import Iterator
 from typing import Any
 
+from changes import STATES, changes, moving, reweights
 from maps import PLAIN, flat, levels
 from running import Folder, found, heading, held, in_folder, judged, output, peak, program, seconds, table
 
@@ -28,15 +29,6 @@ LINES, REWEIGHTS, ASKED = 20_000, 4, 8
 TALK = "epoch\n" * 20_000
 
 
-def change(base: Any, part: str) -> str:
-    return f'change {{"base":{base},{part}}}\n'
-
-
-def changes(parts: Any, lines: Any, first: Any) -> Any:
-    """Lines of changes, by the parts in turn."""
-    return "".join(change(first + line, parts[line % len(parts)]) for line in range(lines))
-
-
 def accepted(runs: Folder, stated: Any, parts: Any, lines: Any) -> tuple[Any, Any]:
     """What a change costs in seconds, beyond the same line refused; and the evaluations of the last."""
     good = runs.words(stated, changes(parts, lines, FIRST))
@@ -44,13 +36,6 @@ def accepted(runs: Folder, stated: Any, parts: Any, lines: Any) -> tuple[Any, An
     if last[0] != "ok" or int(last[1]) != FIRST + lines:
         sys.exit(f"a change was refused: {last}")
     return (seconds(good, 3) - seconds(runs.words(stated, changes(parts, lines, STALE)), 3)) / lines, int(last[3])
-
-
-def pairs(runs: Folder, stated: Any) -> list[Any]:
-    """Two lists of one pair each for the first group, which move it to one OSD or another."""
-    places = [int(osd) for osd in output(runs.words(stated, "up 1.0\n"))[0].split()[3].strip("[]").split(",")]
-    others = [osd for osd in range(1024) if osd not in places][:2]
-    return [f'"new_items":[["1.0",[[{places[0]},{osd}]]]]' for osd in others]
 
 
 class Measured:
@@ -83,7 +68,7 @@ class Measured:
     @functools.cached_property
     def pair(self) -> Any:
         """The seconds of a change of one pair."""
-        return accepted(self.runs, self.whole, pairs(self.runs, self.whole), LINES)[0]
+        return accepted(self.runs, self.whole, moving(self.runs, self.whole), LINES)[0]
 
     def a_group(self) -> Any:
         """The seconds of opening a group."""
@@ -101,7 +86,7 @@ class Measured:
 
     def reweight(self) -> Any:
         """The seconds of a reweight, for each group that it evaluates."""
-        spent, evals = accepted(self.runs, self.whole, ['"weight":[[5,32768]]', '"weight":[[5,65536]]'], REWEIGHTS)
+        spent, evals = accepted(self.runs, self.whole, reweights(5), REWEIGHTS)
         return spent / evals
 
 
@@ -113,7 +98,7 @@ ROWS = (
     ("memory a group, bytes", 50, lambda of: of.memory(levels)),
     ("the same over 64 OSDs, bytes", 40, lambda of: of.memory(flat)),
     ("a pool of one group, bytes", None, lambda of: of.small_pool()),
-    ("one OSD down or up, µs", 20, lambda of: accepted(of.runs, of.whole, ['"down":[5]', '"up":[5]'], LINES)[0] * 1e6),
+    ("one OSD down or up, µs", 20, lambda of: accepted(of.runs, of.whole, STATES, LINES)[0] * 1e6),
     ("one new pair, µs", None, lambda of: of.pair * 1e6),
     ("a new pair to a rule's run", 1.2, lambda of: of.pair / of.rule_run),
     ("a reweight, µs a group evaluated", None, lambda of: of.reweight() * 1e6),

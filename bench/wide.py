@@ -17,10 +17,11 @@ import functools
 from collections.abc import Iterator
 from typing import Any
 
+from changes import STATES, moving
 from dumps import crush_dump, osd_dump
 from maps import stock
 from running import Folder, found, heading, in_folder, judged, peak, program, seconds, table
-from tables import LINES, TALK, accepted, pairs
+from tables import LINES, TALK, accepted
 from tools import said, spent, words
 
 SIZE, DISK = 3, 1_000_000
@@ -83,8 +84,8 @@ ROWS = (
     ("opening, ms", None, lambda of: of.opened * 1e3),
     ("opening a group, ns", None, lambda of: of.opened / (of.pools * (of.groups - 1)) * 1e9),
     ("memory a group, bytes", 40, lambda of: of.memory()),
-    ("one OSD down or up, µs", 20, lambda of: of.change(['"down":[5]', '"up":[5]'])),
-    ("one new pair, µs", None, lambda of: of.change(pairs(of.runs, of.whole))),
+    ("one OSD down or up, µs", 20, lambda of: of.change(STATES)),
+    ("one new pair, µs", None, lambda of: of.change(moving(of.runs, of.whole))),
     ("a plan, ms", 1000, lambda of: of.plan()),
     ("import, s", 5, lambda of: spent(words(of.runs, "import", *of.dumps))),
     ("df, s", 5, lambda of: of.told()),
