@@ -9,7 +9,7 @@ import re
 from collections.abc import Callable
 
 from tests.ceph_monitor import WORST
-from tests.clusters import Json, commands, copied, kept
+from tests.clusters import Json, commands, copied, exceptions_told, kept
 from tests.drains import come_in, reweighted
 from tests.holds import RECORDS, WEIGHT, lines_in, sets_of
 from tests.tool_cases import StockCase
@@ -120,14 +120,7 @@ class Chosen(StockCase):
     def held(self) -> tuple[Json, list[pathlib.Path]]:
         """A cluster whose groups are held behind a change, and its dumps."""
         record = RECORDS[WEIGHT]
-        dump = dict(
-            record["new_osd_dump"],
-            pg_upmap=[{"pgid": group, "osds": osds} for group, osds in record["kept"]["pg_upmap"]],
-            pg_upmap_items=[
-                {"pgid": group, "mappings": [{"from": was, "to": now} for was, now in pairs]}
-                for group, pairs in record["kept"]["pg_upmap_items"]
-            ],
-        )
+        dump = {**record["new_osd_dump"], **exceptions_told(**record["kept"])}
         return dump, [self.tools.put("held", dump), self.tools.put("crush", record["new_crush_dump"])]
 
     def test_releases(self) -> None:

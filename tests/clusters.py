@@ -115,6 +115,24 @@ def with_commands(value: Json, lines: Iterable[str]) -> Json:
     return dict(value, pg_upmap=sorted(map(list, explicit.items())), pg_upmap_items=sorted(map(list, items.items())))
 
 
+def exceptions_told(pg_upmap: Iterable[Json] = (), pg_upmap_items: Iterable[Json] = ()) -> dict[str, list[Json]]:
+    """Explicit sets and pairs as an OSD dump tells them."""
+    pairs = [(group, [{"from": was, "to": now} for was, now in own]) for group, own in pg_upmap_items]
+    return {
+        "pg_upmap": [{"pgid": group, "osds": osds} for group, osds in pg_upmap],
+        "pg_upmap_items": [{"pgid": group, "mappings": own} for group, own in pairs],
+    }
+
+
+def exceptions_in(dump: Json) -> dict[str, list[Json]]:
+    """The explicit sets and the pairs of an OSD dump, as a map has them."""
+    pairs = [(own["pgid"], [[one["from"], one["to"]] for one in own["mappings"]]) for own in dump["pg_upmap_items"]]
+    return {
+        "pg_upmap": [[own["pgid"], own["osds"]] for own in dump["pg_upmap"]],
+        "pg_upmap_items": [[group, own] for group, own in pairs],
+    }
+
+
 def pool_lines(error: str) -> list[str]:
     """What a plan tells of pools, behind what it tells of an outage and of the cluster."""
     return [line for line in error.splitlines() if not line.startswith(("cluster ", "an outage: "))]

@@ -8,6 +8,7 @@ import re
 
 from tests.clusters import CLUSTERS, Json, below, copied, places
 from tests.tool_cases import ToolCase
+from tests.whole_maps import device_weights, item_weights, steps_for
 
 # The columns of `ceph osd df tree` (Ceph, OSDMap.cc, OSDUtilizationPlainDumper) that tell nothing of bytes, in their
 # order.
@@ -51,11 +52,10 @@ class DfOutput(ToolCase):
 
     def shares(self, value: Json) -> dict[int, float]:
         """The share of each OSD that is up and in: each pool's places by the weights of its rule's tree."""
-        items = {item: weight for bucket in value["buckets"] for item, weight in bucket["items"]}
+        items = item_weights(value)
         sets, shares = self.tools.sets(value), dict.fromkeys(range(value["max_osd"]), 0.0)
         for pool in value["pools"]:
-            rule = next(rule for rule in value["rules"] if rule["id"] == pool["rule"])
-            tree = below(value, next(step[1] for step in rule["steps"] if step[0] == "take")) - {DOWN, OUT}
+            tree = below(value, next(step[1] for step in steps_for(value, pool) if step[0] == "take")) - {DOWN, OUT}
             held = sum(len(places(answer)) for group, answer in sets.items() if group.startswith(f"{pool['id']}."))
             for osd in tree:
                 shares[osd] += held * items[osd] / sum(items[one] for one in tree)
@@ -112,7 +112,7 @@ class DfOutput(ToolCase):
             for osd in json.loads(places.split(" ")[0].replace("none", "null"))
             if osd is not None
         ]
-        weight = sum(weight for bucket in value["buckets"] for item, weight in bucket["items"] if item >= 0) / 65536
+        weight = sum(device_weights(value).values()) / 65536
         told = self.json("df", self.tools.put("m", value))
         self.assertEqual(
             [(row["id"], row["pgs"], row["ratio"]) for row in told["stray"]], [(count, 2, None), (count + 1, 0, 0)]

@@ -15,7 +15,7 @@ from collections.abc import Iterator
 from typing import Optional
 
 from tests.ceph_monitor import WORST
-from tests.clusters import STOCK, Json, commands, copied, kept, raised, with_commands
+from tests.clusters import STOCK, Json, commands, copied, exceptions_in, exceptions_told, kept, raised, with_commands
 from tests.holds import sets_of
 from tests.tool_cases import StockCase
 
@@ -74,16 +74,9 @@ def reweighted(crush: Json, weights: dict[int, float]) -> Json:
 
 def left_by(dump: Json, scripts: list[list[str]]) -> Json:
     """The exceptions of a dump once the commands of scripts are given, each of which stays."""
-    before = {
-        "pg_upmap": [[entry["pgid"], entry["osds"]] for entry in dump["pg_upmap"]],
-        "pg_upmap_items": [
-            [entry["pgid"], [[pair["from"], pair["to"]] for pair in entry["mappings"]]]
-            for entry in dump["pg_upmap_items"]
-        ],
-    }
     lines = [line for script in scripts for line in script if "pg-upmap" in line]
-    after = with_commands(before, lines)
-    return {key: sorted(after[key]) for key in ("pg_upmap", "pg_upmap_items")}
+    after = with_commands(exceptions_in(dump), lines)
+    return {key: sorted(own) for key, own in after.items()}
 
 
 class Drains(StockCase):
@@ -222,10 +215,7 @@ class Drains(StockCase):
             ([line for part in told["parts"][1:] for line in part["commands"]], 0),
         ):
             lines = lines + more
-            items = with_commands({"pg_upmap": [], "pg_upmap_items": []}, lines)["pg_upmap_items"]
-            entries = [
-                {"pgid": group, "mappings": [{"from": one, "to": two} for one, two in pairs]} for group, pairs in items
-            ]
+            entries = exceptions_told(**with_commands(exceptions_told(), lines))["pg_upmap_items"]
             own = {"osd_dump": dict(was, pg_upmap_items=entries), "crush_dump": crush}
             again = self.json("drain", *self.files(own), "osd.7", "--batch", 20)
             self.assertEqual((again["places"], again["moving"]["places"]), (places, places))

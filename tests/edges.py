@@ -16,7 +16,7 @@ from typing import Any
 from rekhuso.command_line import main, parser
 
 from tests.cases import EXAMPLE
-from tests.clusters import STOCK, Json, copied
+from tests.clusters import STOCK, Json, copied, exceptions_told
 from tests.tool_cases import ToolCase
 
 # What stands in place of a number; JSON's own text has no end of digits.
@@ -56,11 +56,8 @@ def cluster_files() -> dict[str, Json]:
     osd, crush = own["osd_dump"], own["crush_dump"]
     pool = osd["pools"][0]["pool"]
     osd["osds"][0]["primary_affinity"] = 1
-    osd.update(
-        pg_upmap=[{"pgid": f"{pool}.0", "osds": [0, 4, 8]}],
-        pg_upmap_items=[{"pgid": f"{pool}.0", "mappings": [{"from": 0, "to": 1}]}],
-        pg_upmap_primaries=[{"pgid": f"{pool}.0", "primary_osd": 1}],
-    )
+    osd.update(exceptions_told([[f"{pool}.0", [0, 4, 8]]], [[f"{pool}.0", [[0, 1]]]]))
+    osd["pg_upmap_primaries"] = [{"pgid": f"{pool}.0", "primary_osd": 1}]
     sets = [
         {"bucket_id": bucket["id"], "weight_set": [[item["weight"] / 65536 for item in bucket["items"]]]}
         for bucket in crush["buckets"]

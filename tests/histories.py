@@ -26,6 +26,7 @@ from tests import model
 from tests.cases import example
 from tests.clusters import Json
 from tests.tool_cases import AS_MONITOR, ToolCase
+from tests.whole_maps import crush_of, pool_of
 
 SECONDS = 300
 # The tables of a store.
@@ -41,8 +42,8 @@ NOTED.append("INSERT INTO store VALUES (7, 5)")
 IN_FILE = 3
 
 # A CRUSH map with another rule, and a pool.
-CRUSH = {"buckets": example()["buckets"], "rules": [*example()["rules"], dict(example()["rules"][0], id=7)]}
-POOL = {"id": 2, "kind": "replicated", "pg_num": 8, "pgp_num": 8, "rule": 0, "size": 2}
+CRUSH = crush_of(example(), rules=[*example()["rules"], dict(example()["rules"][0], id=7)])
+POOL = pool_of(2, 8, 2)
 MANY: list[list[object]] = [[f"2.{number:x}", [[0, 1]]] for number in range(2, 16)]
 
 # Changes to the example's map, one after the other, and what is told of each.
@@ -200,7 +201,7 @@ class Histories(ToolCase):
                     "pg_upmap_items": {"added": [], "changed": [["1.0", [[3, 0]]]], "removed": []},
                 },
             ),
-            (14, {"new_crush": {"buckets": 1, "rules": 2}}),
+            (14, {"new_crush": {key: len(own) for key, own in CRUSH.items()}}),
             (
                 18,
                 {

@@ -10,7 +10,7 @@ import subprocess
 from collections.abc import Callable
 from typing import Any
 
-from tests.clusters import CLUSTERS, Json, copied
+from tests.clusters import CLUSTERS, Json, copied, exceptions_told
 from tests.tool_cases import SECONDS, ToolCase
 
 Work = Callable[[Json, Json], object]
@@ -126,11 +126,11 @@ def many_chosen(_: Json, crush: Json) -> None:
 
 
 def long_set(osd: Json, _: Json) -> None:
-    osd["pg_upmap"] = [{"pgid": "1.4", "osds": [0, 4, 8, 9]}]
+    osd.update(exceptions_told([["1.4", [0, 4, 8, 9]]]))
 
 
 def double_set(osd: Json, _: Json) -> None:
-    osd["pg_upmap"] = [{"pgid": "1.4", "osds": [0, 4, 4]}]
+    osd.update(exceptions_told([["1.4", [0, 4, 4]]]))
 
 
 def uneven(_: Json, crush: Json) -> None:
@@ -301,13 +301,8 @@ class Imports(ToolCase):
         absent = next(osd for osd in range(12) if f"{osd}" in sets["1.4"].split(" ")[0].strip("[]").split(","))
         others = [osd for osd in range(12) if osd != absent]
         osd_dump, crush_dump = changed(lambda osd, _: osd.update(max_osd=13), "002-built")
-        osd_dump.update(
-            pg_upmap=[{"pgid": "1.4", "osds": [others[0], 12, others[5]]}],
-            pg_upmap_items=[
-                {"pgid": "1.4", "mappings": [{"from": others[0], "to": others[8]}]},
-                {"pgid": "1.5", "mappings": [{"from": 12, "to": 1}]},
-            ],
-        )
+        pairs = [["1.4", [[others[0], others[8]]]], ["1.5", [[12, 1]]]]
+        osd_dump.update(exceptions_told([["1.4", [others[0], 12, others[5]]]], pairs))
         self.assertEqual(
             self.reasons(osd_dump, crush_dump),
             ["the explicit set of 1.4 names osd.12, which the OSD dump does not list"],
@@ -316,23 +311,23 @@ class Imports(ToolCase):
         self.assertEqual(status, 0, lines)
         self.assertEqual(self.tools.sets(json.loads(output)), self.tools.sets(dict(value, max_osd=13)), lines)
         self.assertIn("taken as out: the explicit set of 1.4 names osd.12, which the OSD dump does not list", lines)
-        osd_dump.update(pg_upmap=[], pg_upmap_items=[{"pgid": "1.4", "mappings": [{"from": absent, "to": 12}]}])
+        osd_dump.update(exceptions_told([], [["1.4", [[absent, 12]]]]))
         self.assertEqual(
             self.reasons(osd_dump, crush_dump), ["the pairs of 1.4 name osd.12, which the OSD dump does not list"]
         )
         for high in (13, 2147483647):
             with self.subTest(high=high):
                 for words in ((), ("--unmatched",)):
-                    osd_dump["pg_upmap_items"][0]["mappings"][0]["to"] = high
+                    osd_dump.update(exceptions_told([], [["1.4", [[absent, high]]]]))
                     self.assertEqual(
                         self.reasons(osd_dump, crush_dump, *words),
                         [f"the pairs of 1.4 name osd.{high}, which is not below max_osd, 13"],
                     )
-        osd_dump.update(pg_upmap=[{"pgid": f"1.{group}", "osds": [0, 12]} for group in range(5)], pg_upmap_items=[])
+        osd_dump.update(exceptions_told([f"1.{group}", [0, 12]] for group in range(5)))
         self.assertEqual(
             self.reasons(osd_dump, crush_dump), ["5 explicit sets name OSDs which the OSD dump does not list: osd.12"]
         )
-        osd_dump.update(pg_upmap=[{"pgid": "1.c0", "osds": [0, 99]}, {"pgid": "7.0", "osds": [99]}], pg_upmap_items=[])
+        osd_dump.update(exceptions_told([["1.c0", [0, 99]], ["7.0", [99]]]))
         status, output, lines = self.imported(osd_dump, crush_dump)
         self.assertEqual(status, 0, lines)
         self.assertEqual(json.loads(output)["pg_upmap"], [], lines)

@@ -8,6 +8,7 @@ import pathlib
 from tests.clusters import CLUSTERS, Json, commands, copied, places, with_commands
 from tests.tool_cases import ToolCase, without_names
 from tests.tool_output import Watched
+from tests.whole_maps import device_weights
 
 
 class JsonOutput(ToolCase):
@@ -68,7 +69,7 @@ class JsonOutput(ToolCase):
         after = told["pools"][0]["after"]
         sets = self.tools.sets(with_commands(value, told["commands"]))
         held = [osd for answer in sets.values() for osd in places(answer)]
-        weights = {item: weight for bucket in value["buckets"] for item, weight in bucket["items"] if item >= 0}
+        weights = device_weights(value)
         total = sum(weights.values())
         away = max(abs(held.count(osd) - len(held) * weight / total) for osd, weight in weights.items())
         self.assertAlmostEqual(after["farthest"], away, delta=1e-9)

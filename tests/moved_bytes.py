@@ -7,7 +7,7 @@ import pathlib
 import random
 from collections.abc import Iterable
 
-from tests.clusters import STOCK, Json, bucket_of, commands
+from tests.clusters import STOCK, Json, bucket_of, commands, exceptions_told
 from tests.drains import BUILT, Sets, come_in, reweighted, weights_of
 from tests.holds import RECORDS, WEIGHT, sets_of
 from tests.tool_cases import StockCase
@@ -52,11 +52,9 @@ class MovedBytes(StockCase):
     def sets_under(self, change: Iterable[str], lines: list[str]) -> Sets:
         """The sets once OSDs have other weights and groups other pairs."""
         crush = reweighted(self.own["crush_dump"], weights_of(list(change)))
-        items = [
-            {"pgid": words[3], "mappings": [{"from": int(a), "to": int(b)} for a, b in zip(words[4::2], words[5::2])]}
-            for words in (line.split(" ") for line in {line.split(" ")[3]: line for line in lines}.values())
-        ]
-        dump = dict(self.own["osd_dump"], pg_upmap_items=items)
+        last = (line.split(" ") for line in {line.split(" ")[3]: line for line in lines}.values())
+        pairs = [(words[3], [(int(a), int(b)) for a, b in zip(words[4::2], words[5::2])]) for words in last]
+        dump = dict(self.own["osd_dump"], pg_upmap_items=exceptions_told((), pairs)["pg_upmap_items"])
         files = self.tools.put("asked-osd", dump), self.tools.put("asked-crush", crush)
         return sets_of(super().sets(json.loads(self.output("import", *files))))
 
@@ -118,14 +116,7 @@ class MovedBytes(StockCase):
     def test_release(self) -> None:
         """So does a release, part by part; its commands are those of one that knows nothing of the data."""
         self.own = RECORDS[WEIGHT]
-        dump = dict(
-            self.own["new_osd_dump"],
-            pg_upmap=[{"pgid": group, "osds": osds} for group, osds in self.own["kept"]["pg_upmap"]],
-            pg_upmap_items=[
-                {"pgid": group, "mappings": [{"from": was, "to": now} for was, now in pairs]}
-                for group, pairs in self.own["kept"]["pg_upmap_items"]
-            ],
-        )
+        dump = {**self.own["new_osd_dump"], **exceptions_told(**self.own["kept"])}
         files = self.tools.put("held", dump), self.tools.put("crush", self.own["new_crush_dump"])
         sizes = {group: (at % 7 + 1) * GIB for at, group in enumerate(groups_in(self.own))}
         erasure = [pool for pool in dump["pools"] if pool["type"] == 3]

@@ -11,7 +11,7 @@ import json
 import pathlib
 
 from tests.ceph_monitor import WORST
-from tests.clusters import Json, commands, kept, raised, with_commands
+from tests.clusters import Json, commands, exceptions_in, exceptions_told, kept, raised, with_commands
 from tests.drains import come_in
 from tests.holds import sets_of
 from tests.tool_cases import StockCase
@@ -59,15 +59,10 @@ class Preparing(StockCase):
         output, error = self.ran("hold", *self.files(), "--prepare")
         self.assertIn("a hold would leave 37 groups; 37 groups and 37 places move before the change", error)
         self.assertIn("; then it leaves 0\n", error)
-        tables: Json = {"pg_upmap": [], "pg_upmap_items": []}
-        for own in WORST["racks"]["osd_dump"]["pg_upmap_items"]:
-            tables["pg_upmap_items"].append([own["pgid"], [[one["from"], one["to"]] for one in own["mappings"]]])
-        after = with_commands(tables, commands(output))
-        items = [
-            {"pgid": group, "mappings": [{"from": was, "to": now} for was, now in pairs]}
-            for group, pairs in after["pg_upmap_items"]
-        ]
-        told = self.json("hold", *self.files(dict(WORST["racks"]["osd_dump"], pg_upmap_items=items)))
+        dump = WORST["racks"]["osd_dump"]
+        after = with_commands({**exceptions_in(dump), "pg_upmap": []}, commands(output))
+        items = exceptions_told(**after)["pg_upmap_items"]
+        told = self.json("hold", *self.files(dict(dump, pg_upmap_items=items)))
         self.assertEqual(told["left"], [])
 
     def test_undo(self) -> None:

@@ -6,6 +6,7 @@ from collections.abc import Mapping
 from fractions import Fraction
 
 from tests.clusters import Json
+from tests.whole_maps import steps_for
 
 
 def filled(weights: Mapping[int, int], count: int) -> dict[int, Fraction]:
@@ -60,7 +61,7 @@ def reach_of(value: Json, pool: Json, weights: Mapping[int, int]) -> list[dict[i
     found: list[dict[int, Fraction]] = []
     steps: list[Json] = []
     given = Given(value, weights, pool["size"])
-    for step in next(rule["steps"] for rule in value["rules"] if rule["id"] == pool["rule"]):
+    for step in steps_for(value, pool):
         if step[0] == "take":
             root, steps = step[1], []
         elif step[0].startswith("choose"):

@@ -1,5 +1,5 @@
-"""Whole maps by what a test cares for. The keys of a map, an OSD and a pool stand here once, for all tests that make
-maps of their own."""
+"""Whole maps by what a test cares for, and what tests read of maps. The keys of a map, an OSD and a pool stand here
+once, for all tests that make maps of their own."""
 
 from __future__ import annotations
 
@@ -13,6 +13,8 @@ FULL = 65_536
 # The steps of a rule that places copies on any OSDs below the first bucket, and on hosts.
 ON_OSDS: list[list[Any]] = [["take", -1], ["choose_firstn", 0, 0], ["emit"]]
 ON_HOSTS: list[list[Any]] = [["take", -1], ["chooseleaf_firstn", 0, 1], ["emit"]]
+# What a map has that states that there are no exceptions.
+NO_EXCEPTIONS: dict[str, list[Any]] = {"pg_upmap": [], "pg_upmap_items": []}
 
 
 def osd_of(number: int, is_up: bool = True, weight: int = FULL) -> dict[str, Any]:
@@ -44,3 +46,32 @@ def map_of(
     """A map of version 1 at epoch 1 with room for these OSDs alone, unless `more` says another thing."""
     own: dict[str, Any] = {"version": 1, "epoch": 1, "max_osd": len(osds), "osds": list(osds)}
     return {**own, "buckets": list(buckets), "rules": list(rules), "pools": list(pools), **more}
+
+
+def crush_of(value: Json, **more: Any) -> dict[str, Any]:
+    """The CRUSH map of a map as a change brings it, with other parts where `more` has them."""
+    return {"buckets": value["buckets"], "rules": value["rules"], **more}
+
+
+# What tests read of maps
+
+
+def item_weights(value: Json) -> dict[int, int]:
+    """The weight of each item of a map's buckets."""
+    return {item: weight for bucket in value["buckets"] for item, weight in bucket["items"]}
+
+
+def device_weights(value: Json) -> dict[int, int]:
+    """The weight of each device of a map."""
+    return {item: weight for item, weight in item_weights(value).items() if item >= 0}
+
+
+def reweights_of(value: Json) -> dict[int, int]:
+    """The reweight of each OSD of a map that is up."""
+    return {osd["id"]: osd["weight"] for osd in value["osds"] if osd["up"]}
+
+
+def steps_for(value: Json, pool: Json) -> list[Any]:
+    """The steps of a pool's rule."""
+    found: list[Any] = next(rule["steps"] for rule in value["rules"] if rule["id"] == pool["rule"])
+    return found
