@@ -7,13 +7,23 @@ from dataclasses import dataclass
 from typing import Union
 
 from ..faults import Fault
-from ..program.maps import Change, Exceptions, Map, Program, altered, entries_of, with_all_up
+from ..program.maps import (
+    Change,
+    Exceptions,
+    Map,
+    Program,
+    altered,
+    entries_of,
+    excepted_groups,
+    with_all_up,
+    without_exceptions,
+)
 from ..values import SLOTS
-from .cleanup import Cleaned, cleaned, excepted_groups, group_fault
+from .cleanup import Cleaned, cleaned, group_fault
 from .cluster import Cluster
-from .conversion import map_of, monitor_of, pool_of
-from .dump_types import OsdDump
+from .conversion import map_of, monitor_of
 from .effects import Host, with_change, with_osd, with_weights
+from .entry_forms import exceptions_in, pool_of, told_exceptions
 from .judge import Places, Present, Reason, judge_of_cluster
 from .map_dumps import cluster_of_map
 from .map_parts import map_clusters
@@ -94,27 +104,9 @@ def with_command(cluster: Cluster, step: Command) -> Cluster:
     return Cluster(dump, crush, cluster.torn, cluster.gone)
 
 
-def exceptions_in(dump: OsdDump) -> Exceptions:
-    """All exceptions of an OSD dump in the map's form."""
-    return {
-        "pg_upmap": [[entry["pgid"], entry["osds"]] for entry in entries_of(dump, "pg_upmap")],
-        "pg_upmap_items": [
-            [entry["pgid"], [[pair["from"], pair["to"]] for pair in entry["mappings"]]]
-            for entry in entries_of(dump, "pg_upmap_items")
-        ],
-    }
-
-
 def with_exceptions(cluster: Cluster, kept: Exceptions) -> Cluster:
     """A cluster with other exceptions, in the map's form."""
-    dump = altered(
-        cluster.osd_dump,
-        pg_upmap=[{"pgid": group, "osds": osds} for group, osds in entries_of(kept, "pg_upmap")],
-        pg_upmap_items=[
-            {"pgid": group, "mappings": [{"from": was, "to": now} for was, now in pairs]}
-            for group, pairs in entries_of(kept, "pg_upmap_items")
-        ],
-    )
+    dump = altered(cluster.osd_dump, **told_exceptions(kept))
     return Cluster(dump, cluster.crush, cluster.torn, cluster.gone)
 
 
@@ -125,7 +117,7 @@ def raw_sets(maps: list[Map], groups: set[str], program: Program) -> dict[str, P
         pools = {str(pool["id"]) for pool in value["pools"]}
         own = sorted(group for group in groups if group.split(".")[0] in pools)
         if own:
-            with monitor_of(altered(with_all_up(value), pg_upmap=[], pg_upmap_items=[]), program) as monitor:
+            with monitor_of(without_exceptions(with_all_up(value)), program) as monitor:
                 found.update({group: up.places for group, up in monitor.ups(own).items()})
     return found
 

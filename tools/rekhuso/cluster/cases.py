@@ -5,6 +5,7 @@ from __future__ import annotations
 from typing import Any
 
 from ..files import JsonObject
+from ..program.map_forms import EXCEPTIONS
 from ..program.maps import altered, entries_of, group_key
 from .cluster import Cluster
 from .dump_forms import CRUSH_DUMP, OSD_DUMP
@@ -86,7 +87,7 @@ def case_of(cluster: Cluster, group: str, said: ToldSet) -> JsonObject:
     what the cluster says of it.
     """
     part = cluster.of_pools({group_key(group)[0]})
-    keys = ("pg_upmap", "pg_upmap_items", "pg_upmap_primaries")
+    keys = (*EXCEPTIONS, "pg_upmap_primaries")
     own = {key: [entry for entry in entries_of(part.osd_dump, key) if entry["pgid"] == group] for key in keys}
     pools = [altered(pool, pool_name=f"pool{pool['pool']}", erasure_code_profile="") for pool in part.pools]
     kept: JsonObject = {key: value for key, value in part.osd_dump.items() if key in ("epoch", "max_osd", "osds")}

@@ -12,7 +12,7 @@ from collections.abc import Iterable, Mapping, Sequence
 from dataclasses import dataclass
 
 from ..program.answers import Up
-from ..program.maps import Entry, Exceptions, Map, Pool, entries_of, group_key
+from ..program.maps import Entry, Exceptions, Map, Pool, entries_of, excepted_groups, exceptions_where, group_key
 from ..program.session import Session
 from ..values import SLOTS
 from .judge import Judge, Places, Present, Reason, present_of
@@ -121,11 +121,6 @@ def cleaned(judge: Judge, present: Present, raw: Mapping[str, Places], exception
 # Plans
 
 
-def excepted_groups(exceptions: Exceptions) -> set[str]:
-    """The groups that have exceptions."""
-    return {entry[0] for key in ("pg_upmap", "pg_upmap_items") for entry in entries_of(exceptions, key)}
-
-
 def barred(judge: Judge, value: Map, sets: Mapping[int, Sequence[Up]]) -> dict[int, Reason]:
     """Of a map's pools those in which no exception can stay, as each set that a pool has now breaks its rule as a
     monitor reads it; with the reason for the first one.
@@ -163,11 +158,7 @@ def reasons_of(judge: Judge, session: Session, new: Map, groups: list[str]) -> d
     """
     session.change(old_upmap=groups, old_items=groups)
     raw, own = {group: up.places for group, up in session.ups(groups).items()}, set(groups)
-    of_groups: Exceptions = {
-        "pg_upmap": [entry for entry in entries_of(new, "pg_upmap") if entry[0] in own],
-        "pg_upmap_items": [entry for entry in entries_of(new, "pg_upmap_items") if entry[0] in own],
-    }
-    found = cleaned(judge, present_of(new), raw, of_groups)
+    found = cleaned(judge, present_of(new), raw, exceptions_where(new, own.__contains__))
     idle = Reason("idle-pairs", "pairs that do nothing", "some of them do nothing")
     return {group: found.gone.get(group, idle) for group in groups}
 

@@ -8,16 +8,15 @@ import re
 from functools import cached_property
 from typing import Any, Callable
 
-from ..program.map_forms import GROUP_PATTERN, ITEMS, LEAF_WORDS, Limits, SETTING, limits_of
-from ..program.maps import Bucket, Entry, Exceptions, RuleStep, altered, entries_of
+from ..program.map_forms import EXCEPTIONS, GROUP_PATTERN, ITEMS, LEAF_WORDS, Limits, SETTING, limits_of
+from ..program.maps import Bucket, Entry, Exceptions, RuleStep, altered, entries_of, exceptions_where
 from .disks import NEARFULL
 from .dump_types import CrushDump, DumpBucket, DumpItem, DumpOsd, DumpRule, DumpStep, OsdDump
+from .entry_forms import acting, exceptions_in
 from .names import Names
 from .tunables import steps_for
 from .weight_sets import compat_weight_set, weight_sets_of
 
-HASHPSPOOL = 1
-KINDS_BY_TYPE = {1: "replicated", 3: "erasure"}
 ERASURE = 3
 # The greatest id of a pool; the limits that depend on buckets are in `map_forms`.
 GREATEST_POOL = 65535
@@ -324,19 +323,7 @@ class Cluster:
 
     def kept_exceptions(self) -> Exceptions:
         """All exceptions of groups that are there, as Ceph has them, in the map's form: also those that do nothing."""
-        explicit = [[entry["pgid"], entry["osds"]] for entry in entries_of(self.osd_dump, "pg_upmap")]
-        items = [
-            [entry["pgid"], [[pair["from"], pair["to"]] for pair in entry["mappings"]]]
-            for entry in entries_of(self.osd_dump, "pg_upmap_items")
-        ]
-        return {
-            "pg_upmap": [entry for entry in explicit if self.is_group(entry[0])],
-            "pg_upmap_items": [entry for entry in items if self.is_group(entry[0])],
-        }
-
-    def acts(self, osds: list[int]) -> bool:
-        """Whether all of some OSDs are there."""
-        return all(osd in self.osds for osd in osds)
+        return exceptions_where(exceptions_in(self.osd_dump), self.is_group)
 
     def is_group(self, group: str) -> bool:
         """Whether a group is one of a pool's."""
@@ -345,17 +332,8 @@ class Cluster:
 
     @cached_property
     def exceptions(self) -> tuple[list[Entry], list[Entry]]:
-        """The explicit sets and the pairs that may act, where OSDs that are not there count as out: as in Ceph, an
-        explicit set with an OSD that is out does nothing, and keeps the pairs of its group from acting too.
-        """
-        kept = self.kept_exceptions()
-        idle = {group for group, osds in kept["pg_upmap"] if not self.acts(osds)}
-        items = []
-        for group, pairs in kept["pg_upmap_items"]:
-            acting = [pair for pair in pairs if self.acts(pair) and pair[0] != pair[1]]
-            if acting and group not in idle:
-                items.append([group, acting])
-        return [entry for entry in kept["pg_upmap"] if entry[0] not in idle], items
+        """The explicit sets and the pairs that may act."""
+        return acting(self.kept_exceptions(), self.osds.__contains__)
 
     # Some pools alone
 
@@ -364,7 +342,7 @@ class Cluster:
         others = {str(pool) for pool in self.sizes.keys() - chosen}
         parts = {
             key: [entry for entry in entries_of(self.osd_dump, key) if entry["pgid"].split(".")[0] not in others]
-            for key in ("pg_upmap", "pg_upmap_items", "pg_upmap_primaries")
+            for key in (*EXCEPTIONS, "pg_upmap_primaries")
             if key in self.osd_dump
         }
         pools = [pool for pool in self.pools if pool["pool"] in chosen]

@@ -5,10 +5,10 @@ from __future__ import annotations
 from ..faults import Fault, Refused
 from ..program.defects import map_defects
 from ..program.map_forms import SETTING
-from ..program.maps import Bucket, Map, Osd, Pool, Program, Rule, needs_stock
+from ..program.maps import Bucket, Map, Program, Rule, needs_stock, osd_gone
 from ..program.monitor import Monitor
-from .cluster import Cluster, KINDS_BY_TYPE
-from .dump_types import DumpOsd, DumpPool
+from .cluster import Cluster
+from .entry_forms import KINDS_BY_TYPE, osd_of, pool_of
 
 
 def bucket_of(cluster: Cluster, number: int, is_own: bool = False) -> Bucket:
@@ -22,23 +22,6 @@ def bucket_of(cluster: Cluster, number: int, is_own: bool = False) -> Bucket:
     return {"id": number, "items": items, "kind": bucket["alg"], "type": bucket["type_id"]}
 
 
-def osd_of(osd: DumpOsd) -> Osd:
-    """An OSD in the map's form; a reweight above 1 is one of 1 to Ceph."""
-    return {"exists": True, "id": osd["osd"], "up": bool(osd["up"]), "weight": min(round(osd["weight"] * 65536), 65536)}
-
-
-def pool_of(pool: DumpPool) -> Pool:
-    """A pool in the map's form."""
-    return {
-        "id": pool["pool"],
-        "kind": KINDS_BY_TYPE[pool["type"]],
-        "pg_num": pool["pg_num"],
-        "pgp_num": pool["pg_placement_num"],
-        "rule": pool["crush_rule"],
-        "size": pool["size"],
-    }
-
-
 def map_of(cluster: Cluster) -> Map:
     """The map of a cluster that is in the profile."""
     rules: list[Rule] = [
@@ -47,11 +30,7 @@ def map_of(cluster: Cluster) -> Map:
     ]
     is_second = any(step[0] in SETTING for rule in rules for step in rule["steps"])
     explicit, items = cluster.exceptions
-    gone: list[Osd] = [
-        {"exists": False, "id": osd, "up": False, "weight": min(weight, 65536)}
-        for osd, weight in cluster.gone.items()
-        if osd < cluster.max_osd
-    ]
+    gone = [osd_gone(osd, min(weight, 65536)) for osd, weight in cluster.gone.items() if osd < cluster.max_osd]
     return {
         "buckets": [bucket_of(cluster, number) for number in cluster.kept],
         "epoch": cluster.epoch,

@@ -5,12 +5,10 @@ from __future__ import annotations
 from collections.abc import Iterable
 from typing import Any
 
-from ..program.maps import Change, Entry, Exceptions, Map, altered, entries_of, group_key
+from ..program.map_forms import CRUSH_KEYS, EXCEPTIONS, FIXED, GROWING
+from ..program.maps import Change, Entry, Exceptions, Map, altered, entries_of, group_key, osd_gone
 from .json_forms import MovedParts
 from .moving import OtherSet, coming, has_moved, leaving
-
-# The exceptions of a map, and the word that Ceph's commands have for each.
-EXCEPTION_WORDS = {"pg_upmap": "pg-upmap", "pg_upmap_items": "pg-upmap-items"}
 
 
 def by_key(entries: list[Any], key: Any) -> dict[Any, Any]:
@@ -24,9 +22,9 @@ def pool_changes(old: Map, new: Map) -> Change:
     grown, other = [], []
     for number in sorted(before.keys() & after.keys()):
         was, now = before[number], after[number]
-        same = altered(was, pg_num=now["pg_num"], pgp_num=now["pgp_num"]) == now
-        if was != now and same and was["pg_num"] <= now["pg_num"] and was["pgp_num"] <= now["pgp_num"]:
-            grown.append([number, now["pg_num"], now["pgp_num"]])
+        numbers: dict[str, int] = {key: now[key] for key in GROWING}
+        if was != now and altered(was, **numbers) == now and all(was[key] <= now[key] for key in GROWING):
+            grown.append([number, *numbers.values()])
         elif was != now:
             other.append(number)
     return {
@@ -52,13 +50,12 @@ def change_of(old: Map, new: Map) -> tuple[Change, list[str]]:
     pools = pool_changes(old, new)
     unsaid = [f"pool {number} differs in more than its numbers of groups" for number in pools.pop("other")]
     change.update({key: value for key, value in pools.items() if value})
-    if any(by_key(entries_of(old, key), "id") != by_key(entries_of(new, key), "id") for key in ("buckets", "rules")):
-        change["new_crush"] = {"buckets": new["buckets"], "rules": new["rules"]}
+    if any(by_key(entries_of(old, key), "id") != by_key(entries_of(new, key), "id") for key in CRUSH_KEYS):
+        change["new_crush"] = {key: new[key] for key in CRUSH_KEYS}
     before, after = by_key(old["osds"], "id"), by_key(new["osds"], "id")
-    none = {"exists": False, "up": False, "weight": 0}
     parts: Change = {"down": [], "up": [], "weight": []}
     for osd in sorted(before.keys() | after.keys()):
-        was, now = before.get(osd, none), after.get(osd, none)
+        was, now = before.get(osd) or osd_gone(osd), after.get(osd) or osd_gone(osd)
         if was["exists"] != now["exists"]:
             unsaid.append(f"osd.{osd} {'comes' if now['exists'] else 'goes'}")
             continue
@@ -66,11 +63,10 @@ def change_of(old: Map, new: Map) -> tuple[Change, list[str]]:
             parts["up" if now["up"] else "down"].append(osd)
         if was["weight"] != now["weight"]:
             parts["weight"].append([osd, now["weight"]])
-    for name, key in (("upmap", "pg_upmap"), ("items", "pg_upmap_items")):
-        parts[f"old_{name}"], parts[f"new_{name}"] = exception_parts(old, new, key, change.get("old_pools", []))
+    for table, kind in EXCEPTIONS.items():
+        parts[kind.old], parts[kind.new] = exception_parts(old, new, table, change.get("old_pools", []))
     change.update({key: value for key, value in parts.items() if value})
-    if old["max_osd"] != new["max_osd"]:
-        unsaid.append(f"max_osd is {old['max_osd']}, then {new['max_osd']}")
+    unsaid += [f"{key} is {old[key]}, then {new[key]}" for key in FIXED if old[key] != new[key]]
     return change, unsaid
 
 
@@ -79,7 +75,7 @@ def exception_commands(old: Exceptions, new: Exceptions, kept: Exceptions | None
     first. `kept` is what Ceph has, where the old map has not all of it: an explicit set that did nothing would keep
     pairs that come from acting.
     """
-    tables = {key: [dict(entries_of(value, key)) for value in (old, new, kept or old)] for key in EXCEPTION_WORDS}
+    tables = {key: [dict(entries_of(value, key)) for value in (old, new, kept or old)] for key in EXCEPTIONS}
     groups = {
         group
         for before, after, _ in tables.values()
@@ -90,11 +86,12 @@ def exception_commands(old: Exceptions, new: Exceptions, kept: Exceptions | None
     for group in sorted(groups, key=group_key):
         gone, come = [], []
         for key, (_, after, own) in tables.items():
+            kind = EXCEPTIONS[key]
             if group in own and group not in after:
-                gone.append(f"ceph osd rm-{EXCEPTION_WORDS[key]} {group}")
+                gone.append(f"ceph osd rm-{kind.word} {group}")
             elif group in after and own.get(group) != after[group]:
-                osds = after[group] if key == "pg_upmap" else [osd for pair in after[group] for osd in pair]
-                come.append(f"ceph osd {EXCEPTION_WORDS[key]} {group} {' '.join(map(str, osds))}")
+                osds = after[group] if kind.is_set else [osd for pair in after[group] for osd in pair]
+                come.append(f"ceph osd {kind.word} {group} {' '.join(map(str, osds))}")
         found += gone + come
     return found
 

@@ -4,12 +4,14 @@ from __future__ import annotations
 
 import struct
 from dataclasses import dataclass
+from typing import Any
 
+from ..program.map_forms import EXCEPTIONS, ExceptionKey
 from ..program.maps import Change, altered, entries_of
 from ..values import SLOTS
 from .cluster import Cluster
 from .dump_types import CrushDump, DumpBucket, DumpOsd, DumpPool, OsdDump
-from .map_dumps import dump_pool
+from .entry_forms import dump_pool, told_entries
 from .shadows import free_id, total, weight_of, with_shadows
 
 
@@ -143,19 +145,20 @@ def osds_after(dump: OsdDump, change: Change) -> list[DumpOsd]:
     ]
 
 
+def exceptions_after(dump: OsdDump, change: Change, key: ExceptionKey) -> list[Any]:
+    """The exceptions of a kind after a change, those of pools that go among them."""
+    found, kind = {entry["pgid"]: entry for entry in entries_of(dump, key)}, EXCEPTIONS[key]
+    for group in change.get(kind.old, []):
+        found.pop(group, None)
+    found.update({entry["pgid"]: entry for entry in told_entries(kind, change.get(kind.new, []))})
+    return list(found.values())
+
+
 def with_change(dump: OsdDump, change: Change) -> OsdDump:
     """An OSD dump after a change, its part `new_crush` aside."""
-    sets = {entry["pgid"]: entry for entry in entries_of(dump, "pg_upmap")}
-    pairs = {entry["pgid"]: entry for entry in entries_of(dump, "pg_upmap_items")}
-    for group in change.get("old_upmap", []):
-        sets.pop(group, None)
-    for group in change.get("old_items", []):
-        pairs.pop(group, None)
-    sets.update({group: {"pgid": group, "osds": osds} for group, osds in change.get("new_upmap", [])})
-    for group, own in change.get("new_items", []):
-        pairs[group] = {"pgid": group, "mappings": [{"from": was, "to": now} for was, now in own]}
+    tables: dict[str, list[Any]] = {key: exceptions_after(dump, change, key) for key in EXCEPTIONS}
+    if "pg_upmap_primaries" in dump:
+        tables["pg_upmap_primaries"] = entries_of(dump, "pg_upmap_primaries")
     gone = {str(number) for number in change.get("old_pools", [])}
-    named = {"pg_upmap_primaries": entries_of(dump, "pg_upmap_primaries")} if "pg_upmap_primaries" in dump else {}
-    tables = {"pg_upmap": list(sets.values()), "pg_upmap_items": list(pairs.values()), **named}
     kept = {key: [entry for entry in table if entry["pgid"].split(".")[0] not in gone] for key, table in tables.items()}
     return altered(dump, pools=pools_after(dump, change), osds=osds_after(dump, change), **kept)

@@ -8,17 +8,15 @@ from __future__ import annotations
 
 import json
 from collections.abc import Iterator
-from typing import Any
+from typing import Any, cast
 
 from ..faults import Unopened
 from ..program.defects import map_defects
-from ..program.map_forms import change_form
+from ..program.map_forms import CRUSH_KEYS, EXCEPTIONS, ExceptionKey, GROWING, change_form
 from ..program.maps import Change, Map, Pool, altered, entries_of, group_key
 from ..program.stores import StoredChange, StoredJournal
-from .json_forms import CrushParts, EpochParts, ExceptionChangeParts, GrowthParts
+from .json_forms import CrushParts, EpochParts, ExceptionChangeParts, GrowthParts, grown_numbers
 
-# The exceptions of a map, and the word that the parts of a change have for each.
-EXCEPTIONS = {"pg_upmap": "upmap", "pg_upmap_items": "items"}
 FULL_WEIGHT = 65536
 # The form of a change of a store, whose program reads all of them under `--stock`.
 FORM = change_form(True)
@@ -56,12 +54,12 @@ def stored_change(journal: StoredJournal, row: StoredChange) -> Change:
 
 def is_growth(parts: GrowthParts) -> bool:
     """Whether a pool has other numbers of groups than before."""
-    return parts["pg_num"] != parts["pg_num_before"] or parts["pgp_num"] != parts["pgp_num_before"]
+    return any(was != now for was, now in grown_numbers(parts).values())
 
 
 def counts_of(crush: Any) -> CrushParts:
     """How many buckets and rules a new CRUSH map has."""
-    return {"buckets": len(crush["buckets"]), "rules": len(crush["rules"])}
+    return cast(CrushParts, {key: len(crush[key]) for key in CRUSH_KEYS})
 
 
 class Before:
@@ -74,17 +72,13 @@ class Before:
         self.pools: dict[int, Pool] = {pool["id"]: pool for pool in first["pools"]}
         self.tables = {key: dict(entries_of(first, key)) for key in EXCEPTIONS}
 
-    def growth(self, number: int, groups: int, placed: int) -> GrowthParts:
+    def growth(self, number: int, *numbers: int) -> GrowthParts:
         """The numbers of groups of a pool, and those that it had."""
         pool = self.pools[number]
-        self.pools[number] = altered(pool, pg_num=groups, pgp_num=placed)
-        return {
-            "id": number,
-            "pg_num": groups,
-            "pgp_num": placed,
-            "pg_num_before": pool["pg_num"],
-            "pgp_num_before": pool["pgp_num"],
-        }
+        now: dict[str, int] = dict(zip(GROWING, numbers))
+        self.pools[number] = altered(pool, **now)
+        before = {f"{key}_before": pool[key] for key in GROWING}
+        return cast(GrowthParts, {"id": number, **now, **before})
 
     def take_pools(self, change: Change) -> list[GrowthParts]:
         """The pools that grow; those that go and come are told by the change itself."""
@@ -109,15 +103,15 @@ class Before:
         self.weights.update(given)
         return found
 
-    def take_exceptions(self, change: Change, key: str) -> ExceptionChangeParts:
+    def take_exceptions(self, change: Change, key: ExceptionKey) -> ExceptionChangeParts:
         """The exceptions of one kind that come, become others and go."""
         table, gone = self.tables[key], set(entries_of(change, "old_pools"))
-        removed = {group for group in entries_of(change, f"old_{EXCEPTIONS[key]}") if group in table}
+        removed = {group for group in entries_of(change, EXCEPTIONS[key].old) if group in table}
         if gone:
             removed |= {group for group in table if group_key(group)[0] in gone}
         for group in removed:
             del table[group]
-        new = entries_of(change, f"new_{EXCEPTIONS[key]}")
+        new = entries_of(change, EXCEPTIONS[key].new)
         added = [entry for entry in new if entry[0] not in table]
         changed = [[group, own] for group, own in new if group in table and table[group] != own]
         table.update(dict(new))

@@ -4,8 +4,9 @@ to epoch.
 
 from __future__ import annotations
 
-from typing import TypedDict
+from typing import Dict, TypedDict, cast
 
+from ..program.map_forms import GROWING
 from ..program.maps import Entry, Pool
 
 
@@ -167,6 +168,12 @@ class GrowthParts(TypedDict):
     pgp_num: int
     pg_num_before: int
     pgp_num_before: int
+
+
+def grown_numbers(parts: GrowthParts) -> dict[str, tuple[int, int]]:
+    """Each number of a pool that a change lets grow: what it was, and what it is then."""
+    numbers = cast(Dict[str, int], parts)
+    return {key: (numbers[f"{key}_before"], numbers[key]) for key in GROWING}
 
 
 class CrushParts(TypedDict):

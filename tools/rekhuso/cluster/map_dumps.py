@@ -2,27 +2,12 @@
 
 from __future__ import annotations
 
-from ..program.maps import Map, Pool, Rule, altered, entries_of
-from .cluster import Cluster, HASHPSPOOL, KINDS_BY_TYPE
-from .dump_types import CrushDump, DumpPool, DumpRule, DumpStep, OsdDump
+from ..program.maps import Map, Rule, altered, devices_in
+from .cluster import Cluster
+from .dump_types import CrushDump, DumpRule, DumpStep, OsdDump
+from .entry_forms import TYPES_BY_KIND, dump_osd, dump_pool, told_exceptions
 from .names import Names, named
 from .tunables import TUNABLES
-
-TYPES_BY_KIND = {name: number for number, name in KINDS_BY_TYPE.items()}
-
-
-def dump_pool(pool: Pool, name: str) -> DumpPool:
-    """A pool as `ceph osd dump` has it."""
-    return {
-        "pool": pool["id"],
-        "pool_name": name,
-        "type": TYPES_BY_KIND[pool["kind"]],
-        "size": pool["size"],
-        "crush_rule": pool["rule"],
-        "pg_num": pool["pg_num"],
-        "pg_placement_num": pool["pgp_num"],
-        "flags": HASHPSPOOL,
-    }
 
 
 def osd_dump_of(value: Map, names: Names) -> OsdDump:
@@ -31,20 +16,9 @@ def osd_dump_of(value: Map, names: Names) -> OsdDump:
         "epoch": value["epoch"],
         "max_osd": value["max_osd"],
         "pools": [dump_pool(pool, named(names, "pools", pool["id"])) for pool in value["pools"]],
-        "osds": [
-            {"osd": osd["id"], "up": int(osd["up"]), "weight": osd["weight"] / 65536, "state": ["exists"]}
-            for osd in value["osds"]
-            if osd["exists"]
-        ],
+        "osds": [dump_osd(osd) for osd in value["osds"] if osd["exists"]],
     }
-    return altered(
-        dump,
-        pg_upmap=[{"pgid": group, "osds": osds} for group, osds in entries_of(value, "pg_upmap")],
-        pg_upmap_items=[
-            {"pgid": group, "mappings": [{"from": was, "to": now} for was, now in pairs]}
-            for group, pairs in entries_of(value, "pg_upmap_items")
-        ],
-    )
+    return altered(dump, **told_exceptions(value))
 
 
 def rule_of(rule: Rule, names: Names) -> DumpRule:
@@ -67,9 +41,7 @@ def rule_of(rule: Rule, names: Names) -> DumpRule:
 
 def crush_dump_of(value: Map, names: Names) -> CrushDump:
     """What `ceph osd crush dump` would print of a map, whose types go by their numbers."""
-    devices = {osd["id"] for osd in value["osds"]} | {
-        item for bucket in value["buckets"] for item, _ in bucket["items"] if item >= 0
-    }
+    devices = {osd["id"] for osd in value["osds"]} | devices_in(value)
     return {
         "devices": [{"id": device, "name": f"osd.{device}"} for device in sorted(devices)],
         "types": [{"type_id": number, "name": str(number)} for number in range(16)],

@@ -11,9 +11,10 @@ from ..program.answers import Up
 from ..program.maps import Program, altered
 from ..words import counted, share_words
 from .aftermath import cleaned_at, with_exceptions
-from .cluster import Cluster, KINDS_BY_TYPE
+from .cluster import Cluster
 from .conversion import map_of, monitor_of
 from .difference import moved_parts
+from .entry_forms import KINDS_BY_TYPE
 from .map_parts import map_clusters
 from .moving import other_sets
 from .reasons import reasons

@@ -6,7 +6,7 @@ from collections.abc import Mapping, Sequence
 from dataclasses import dataclass
 
 from ..program.answers import Up
-from ..program.maps import Map, Pool, RuleStep
+from ..program.maps import Map, Pool, RuleStep, rule_for
 from ..values import SLOTS
 from .names import Names, named, step_words
 from .told_sets import ToldSet
@@ -34,7 +34,7 @@ class Stages:
 
     def blocks(self) -> list[list[RuleStep]]:
         """The blocks of the rule of the pool: each a take, its choose steps and an emit."""
-        steps = next(rule["steps"] for rule in self.value["rules"] if rule["id"] == self.pool["rule"])
+        steps = rule_for(self.value, self.pool)["steps"]
         found: list[list[RuleStep]] = [[]]
         for step in steps:
             found[-1].append(step)

@@ -7,7 +7,7 @@ from collections.abc import Collection
 from copy import copy
 
 from ..program.answers import Up
-from ..program.maps import Map, Pool, groups_in
+from ..program.maps import Map, Pool, groups_in, rule_for
 from .evenness import standing_in, sums_by_osd
 from .json_forms import FullParts, PoolRowParts, RowParts, SpreadParts, TotalParts
 from .reach import Full, Reach, blocks_of
@@ -62,7 +62,7 @@ class Shares:
     def trees_for(self, pool: Pool) -> list[dict[int, int]]:
         """The same tree by tree, where the rule takes several; those with OSDs in common are one."""
         if pool["rule"] not in self.trees:
-            steps = next(rule["steps"] for rule in self.value["rules"] if rule["id"] == pool["rule"])
+            steps = rule_for(self.value, pool)["steps"]
             trees: list[set[int]] = []
             for osds in [set(self.below(step[1])) for step in steps if step[0] == "take"]:
                 joined = [tree for tree in trees if tree & osds]
@@ -79,7 +79,7 @@ class Shares:
         key = pool["rule"], pool["size"]
         if key not in self.reaches:
             trees, full = list[dict[int, int]](), list[Full]()
-            steps = next(rule["steps"] for rule in self.value["rules"] if rule["id"] == pool["rule"])
+            steps = rule_for(self.value, pool)["steps"]
             blocks = [(set(self.below(root)), root, own) for root, own in blocks_of(steps)]
             for weights in self.trees_for(pool):
                 own = [(root, block) for osds, root, block in blocks if not osds.isdisjoint(weights)]

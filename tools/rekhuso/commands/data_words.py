@@ -5,8 +5,8 @@ from __future__ import annotations
 import argparse
 
 from ..cluster.cluster import Cluster
-from ..cluster.conversion import pool_of
 from ..cluster.data_files import DataFiles, known_data
+from ..cluster.entry_forms import pool_of
 from ..cluster.pool_data import Data
 from .arguments import Arguments, reading
 

@@ -16,7 +16,16 @@ from ..cluster.view import ClusterView, view_of
 from ..files import JsonObject
 from ..output.json_output import put_json
 from ..program.map_forms import GROUP_PATTERN
-from ..program.maps import Program, altered, entries_of, with_all_up
+from ..program.maps import (
+    Program,
+    altered,
+    devices_in,
+    entries_of,
+    osd_there,
+    rule_for,
+    with_all_up,
+    without_exceptions,
+)
 from ..program.questions import up_sets
 from ..values import SLOTS
 from ..words import counted
@@ -45,12 +54,7 @@ class GroupStory:
         self.explicit: list[int] | None = dict(entries_of(value, "pg_upmap")).get(group)
         self.pairs: list[list[int]] = dict(entries_of(value, "pg_upmap_items")).get(group, [])
         up = with_all_up(value)
-        stages = {
-            "raw": altered(up, pg_upmap=[], pg_upmap_items=[]),
-            "explicit": altered(up, pg_upmap_items=[]),
-            "mapped": up,
-            "up": value,
-        }
+        stages = {"raw": without_exceptions(up), "explicit": altered(up, pg_upmap_items=[]), "mapped": up, "up": value}
         self.sets = {stage: up_sets(program, own, [group])[group] for stage, own in stages.items()}
         self.pool = next(own for own in value["pools"] if own["id"] == int(group.split(".")[0]))
         self.primaries = view.primaries(program, group)
@@ -64,12 +68,10 @@ class GroupStory:
 
     def placed(self, full: Iterable[int]) -> list[int | None]:
         """What the rule gives where some OSDs have their full reweight, whatever else the OSDs are."""
-        devices = {
-            item for bucket in self.value["buckets"] for item, _ in bucket["items"] if item >= 0
-        } | self.osds.keys()
+        devices = devices_in(self.value) | self.osds.keys()
         weights = {**{osd: self.weight(osd) for osd in devices}, **dict.fromkeys(full, 65536)}
-        osds = [{"exists": True, "id": osd, "up": True, "weight": weight} for osd, weight in sorted(weights.items())]
-        value = altered(self.value, osds=osds, pools=[self.pool], pg_upmap=[], pg_upmap_items=[])
+        osds = [osd_there(osd, True, weight) for osd, weight in sorted(weights.items())]
+        value = altered(without_exceptions(self.value), osds=osds, pools=[self.pool])
         return up_sets(self.program, value, [self.group])[self.group].places
 
     def met(self, osds: list[int], usual: list[int | None]) -> list[int]:
@@ -84,8 +86,8 @@ class GroupStory:
 
     def passed_over(self) -> list[int]:
         """The OSDs that the rule meets for this group and passes over as out, for a reweight of 0 or of less than 1."""
-        devices = {item for bucket in self.value["buckets"] for item, _ in bucket["items"] if item >= 0}
-        return self.met([osd for osd in sorted(devices) if self.weight(osd) < 65536], self.placed([]))
+        devices = sorted(devices_in(self.value))
+        return self.met([osd for osd in devices if self.weight(osd) < 65536], self.placed([]))
 
     def passed_words(self, osd: int) -> str:
         """An OSD that was passed over, with its reweight where that is not 0."""
@@ -174,7 +176,7 @@ class GroupStory:
 
     def lines(self, names: Names) -> list[str]:
         """The whole story, a line a stage."""
-        pool, rule = self.pool, next(own for own in self.value["rules"] if own["id"] == self.pool["rule"])
+        pool, rule = self.pool, rule_for(self.value, self.pool)
         steps, up = "; ".join(step_words(step, names) for step in rule["steps"]), self.sets["up"]
         about = (
             f"{counted(pool['pg_num'], 'group')} of {named(names, 'pools', pool['id'])}, which is {pool['kind']} of "
@@ -191,7 +193,7 @@ class GroupStory:
 
     def parts(self, names: Names) -> JsonObject:
         """The whole story as JSON has it: the set at each stage, and what changed it."""
-        rule, up = next(own for own in self.value["rules"] if own["id"] == self.pool["rule"]), self.sets["up"]
+        rule, up = rule_for(self.value, self.pool), self.sets["up"]
         pairs = [
             {"from": own["was"], "to": own["now"], "idle": own["idle"], "set": own["places"]}
             for own in self.pair_parts()

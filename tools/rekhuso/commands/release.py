@@ -13,12 +13,12 @@ from __future__ import annotations
 import sys
 from dataclasses import dataclass
 
-from ..cluster.aftermath import exceptions_in
 from ..cluster.cluster import Cluster
 from ..cluster.data_files import DataFiles
 from ..cluster.dump_forms import OSD_DUMP
 from ..cluster.dump_types import OsdDump
 from ..cluster.dumps import first_lines, read_dump
+from ..cluster.entry_forms import exceptions_in
 from ..cluster.imports import imported
 from ..cluster.pool_data import Data
 from ..cluster.releases import least_client
@@ -34,7 +34,7 @@ from ..output.release_words import peak_words, release_lines
 from ..plans.hold_checks import check_still, much_moving
 from ..plans.movement import place_bytes
 from ..plans.release import Goal, Release, release_of
-from ..program.maps import Exceptions, altered
+from ..program.maps import Exceptions, altered, exceptions_where
 from ..values import SLOTS
 from .arguments import (
     ABOUT_DUMPS,
@@ -90,7 +90,7 @@ def kept_in(path: str | None, cluster: Cluster) -> Exceptions:
     OSD dump, or that of another cluster.
     """
     if path is None:
-        return {"pg_upmap": [], "pg_upmap_items": []}
+        return exceptions_in({})
     value, _, faults = read_dump(path, dump_in_report(path, OSD_PART) or json_of(path), OSD_DUMP)
     if faults:
         raise Fault(*first_lines(faults))
@@ -98,11 +98,7 @@ def kept_in(path: str | None, cluster: Cluster) -> Exceptions:
     own, other = cluster.osd_dump.get("fsid"), dump.get("fsid")
     if own is not None and other is not None and own != other:
         raise Fault(f"{path}: of another cluster: its fsid is {other}, and that of the cluster {own}")
-    kept = exceptions_in(dump)
-    return {
-        "pg_upmap": [entry for entry in kept.get("pg_upmap", []) if cluster.is_group(entry[0])],
-        "pg_upmap_items": [entry for entry in kept.get("pg_upmap_items", []) if cluster.is_group(entry[0])],
-    }
+    return exceptions_where(exceptions_in(dump), cluster.is_group)
 
 
 @dataclass(frozen=True, **SLOTS)

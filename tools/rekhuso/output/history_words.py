@@ -5,8 +5,9 @@ from __future__ import annotations
 import time
 from collections.abc import Iterable
 
-from ..cluster.json_forms import EpochParts, ExceptionChangeParts, GrowthParts
+from ..cluster.json_forms import EpochParts, ExceptionChangeParts, GrowthParts, grown_numbers
 from ..cluster.names import Names, named, pool_words, set_words
+from ..program.map_forms import EXCEPTIONS
 from ..program.maps import Entry, Map, Pool, entries_of
 from ..program.stores import StoredJournal
 from ..words import counted, listed, some
@@ -32,7 +33,7 @@ def first_line(first: Map) -> str:
         counted(sum(osd["exists"] for osd in first["osds"]), "OSD"),
         counted(len(first["pools"]), "pool"),
         counted(groups, "group"),
-        counted(sum(len(entries_of(first, key)) for key in ("pg_upmap", "pg_upmap_items")), "exception"),
+        counted(sum(len(entries_of(first, key)) for key in EXCEPTIONS), "exception"),
     ]
     return f"epoch {first['epoch']}: the first map, with {listed(counts)}"
 
@@ -64,11 +65,7 @@ def created_words(pool: Pool, names: Names) -> str:
 
 def grown_words(growth: GrowthParts, names: Names) -> str:
     """A pool that grows, with the numbers that become others."""
-    told = {
-        "pg_num": (growth["pg_num_before"], growth["pg_num"]),
-        "pgp_num": (growth["pgp_num_before"], growth["pgp_num"]),
-    }
-    numbers = [f"{word} {was} to {now}" for word, (was, now) in told.items() if was != now]
+    numbers = [f"{word} {was} to {now}" for word, (was, now) in grown_numbers(growth).items() if was != now]
     return f"{pool_words(names, growth['id'])} grown ({', '.join(numbers)})"
 
 
@@ -113,6 +110,6 @@ def origin_words(parts: EpochParts) -> str:
 def epoch_line(parts: EpochParts, names: Names) -> str:
     """What an epoch changes, in a line, and when and by whom."""
     found = map_words(parts, names) + state_words(parts, names) + weight_words(parts, names)
-    found += exception_words("pg_upmap", parts["pg_upmap"])
-    found += exception_words("pg_upmap_items", parts["pg_upmap_items"])
+    for key in EXCEPTIONS:
+        found += exception_words(key, parts[key])
     return f"epoch {parts['epoch']}{origin_words(parts)}: {'; '.join(found) or 'nothing changed'}"

@@ -17,7 +17,7 @@ from ..plans.next_step import NextStep
 from ..plans.plan import DEFAULT_WISH, misplaced_in, opened, outage_in, planned
 from ..plans.steps import PlanStep
 from ..program.answers import Up
-from ..program.maps import Map, Program, altered, entries_of, group_key, with_all_up
+from ..program.maps import Map, Program, excepted_groups, group_key, with_all_up, without_exceptions
 from ..program.questions import up_sets
 from ..values import SLOTS
 from ..words import counted, escaped
@@ -114,12 +114,10 @@ def full_lines(shares: Shares, names: Names) -> list[str]:
 
 def exception_rows(value: Map, program: Program) -> list[list[str]]:
     """Each group with exceptions: what it would have without them, what it has, and whether they do anything."""
-    groups = sorted(
-        {group for key in ("pg_upmap", "pg_upmap_items") for group, _ in entries_of(value, key)}, key=group_key
-    )
+    groups = sorted(excepted_groups(value), key=group_key)
     up = with_all_up(value)
     with_them = up_sets(program, up, groups) if groups else {}
-    without = up_sets(program, altered(up, pg_upmap=[], pg_upmap_items=[]), groups) if groups else {}
+    without = up_sets(program, without_exceptions(up), groups) if groups else {}
     return [
         [
             group,

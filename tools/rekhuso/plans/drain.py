@@ -13,12 +13,12 @@ from contextlib import ExitStack
 from dataclasses import dataclass
 from typing import List, Tuple
 
-from ..cluster.aftermath import exceptions_in, raw_sets, with_exceptions
-from ..cluster.cleanup import excepted_groups
+from ..cluster.aftermath import raw_sets, with_exceptions
 from ..cluster.cluster import Cluster
-from ..cluster.conversion import map_of, pool_of
+from ..cluster.conversion import map_of
 from ..cluster.difference import exception_commands
 from ..cluster.evenness import Spread
+from ..cluster.entry_forms import exceptions_in, pool_of
 from ..cluster.judge import Places, Reason
 from ..cluster.map_parts import map_clusters
 from ..cluster.moving import erasure_pools
@@ -27,7 +27,17 @@ from ..cluster.pool_data import Data
 from ..cluster.view import view_of_cluster
 from ..faults import Fault
 from ..program.answers import Up
-from ..program.maps import Exceptions, Map, Pool, Program, entries_of, group_key, groups_of, with_all_up
+from ..program.maps import (
+    Exceptions,
+    Map,
+    Pool,
+    Program,
+    entries_of,
+    excepted_groups,
+    group_key,
+    groups_of,
+    with_all_up,
+)
 from ..values import SLOTS
 from .bounds import Measure
 from .busy import PartSize

@@ -9,10 +9,10 @@ from dataclasses import dataclass
 
 from ..cluster.aftermath import Command, CrushWeights, StateChange, after_command, with_exceptions
 from ..cluster.cluster import Cluster
-from ..cluster.difference import EXCEPTION_WORDS
 from ..cluster.effects import weight_units
 from ..cluster.reasons import reasons
 from ..faults import Fault
+from ..program.map_forms import EXCEPTIONS
 from ..program.maps import Exceptions, Program, entries_of, group_key
 from ..values import SLOTS
 from .hold import Hold, hold_of, sides_of_change
@@ -123,14 +123,14 @@ def back_commands(cluster: Cluster, stages: Sequence[Exceptions], lost: Iterable
     explicit, items = cluster.exceptions
     own: Exceptions = {"pg_upmap": explicit, "pg_upmap_items": items}
     found: list[tuple[str, bool, str]] = []
-    for key, word in EXCEPTION_WORDS.items():
+    for key, kind in EXCEPTIONS.items():
         now = dict(entries_of(own, key))
         others = [dict(entries_of(stage, key)) for stage in stages]
         groups = {
             group for other in others for group in other.keys() | now.keys() if other.get(group) != now.get(group)
         }
         for group in groups | (now.keys() & set(lost)):
-            osds = now.get(group, []) if key == "pg_upmap" else [osd for pair in now.get(group, []) for osd in pair]
-            line = f"ceph osd {word} {group} {' '.join(map(str, osds))}" if osds else f"ceph osd rm-{word} {group}"
-            found.append((group, bool(osds), line))
+            osds = now.get(group, []) if kind.is_set else [osd for pair in now.get(group, []) for osd in pair]
+            given = f"{kind.word} {group} {' '.join(map(str, osds))}" if osds else f"rm-{kind.word} {group}"
+            found.append((group, bool(osds), f"ceph osd {given}"))
     return [line for _, _, line in sorted(found, key=lambda one: (group_key(one[0]), one[1]))]

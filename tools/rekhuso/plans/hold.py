@@ -9,10 +9,11 @@ from __future__ import annotations
 from collections.abc import Iterable, Mapping
 from dataclasses import dataclass
 
-from ..cluster.aftermath import Command, after_command, aftermath, cleaned_at, exceptions_in, raw_sets, with_exceptions
+from ..cluster.aftermath import Command, after_command, aftermath, cleaned_at, raw_sets, with_exceptions
 from ..cluster.cluster import Cluster
-from ..cluster.conversion import map_of, monitor_of, pool_of
-from ..cluster.difference import EXCEPTION_WORDS, exception_commands
+from ..cluster.conversion import map_of, monitor_of
+from ..cluster.difference import exception_commands
+from ..cluster.entry_forms import exceptions_in, pool_of
 from ..cluster.judge import Places
 from ..cluster.map_parts import map_clusters
 from ..cluster.moving import coming, has_moved, split_group
@@ -21,7 +22,8 @@ from ..cluster.reasons import reasons
 from ..cluster.releases import least_client
 from ..cluster.unrest import Unrest, losing, unrest_of
 from ..faults import Fault
-from ..program.maps import Exceptions, Map, Program, entries_of, group_key, groups_in, with_all_up
+from ..program.map_forms import EXCEPTIONS
+from ..program.maps import Exceptions, Map, Program, entries_of, exceptions_where, group_key, groups_in, with_all_up
 from ..values import SLOTS
 from ..words import counted
 from .group_filter import ALL_GROUPS, GroupFilter
@@ -151,17 +153,13 @@ def check_held(new: Cluster, held: Iterable[Held], goal: Exceptions, program: Pr
 
 def of_groups(exceptions: Exceptions, groups: Iterable[str]) -> Exceptions:
     """The exceptions of some groups."""
-    own = set(groups)
-    return {
-        "pg_upmap": [entry for entry in entries_of(exceptions, "pg_upmap") if entry[0] in own],
-        "pg_upmap_items": [entry for entry in entries_of(exceptions, "pg_upmap_items") if entry[0] in own],
-    }
+    return exceptions_where(exceptions, set(groups).__contains__)
 
 
 def kept_apart(now: Exceptions, goal: Exceptions, lost: frozenset[str]) -> Exceptions:
     """Exceptions without those that the monitor takes away on the way to a change and that are to be given again."""
 
-    tables = {key: dict(entries_of(goal, key)) for key in EXCEPTION_WORDS}
+    tables: dict[str, dict[str, object]] = {key: dict(entries_of(goal, key)) for key in EXCEPTIONS}
 
     def stays(key: str, group: str, own: object) -> bool:
         """Whether an exception stays, or becomes another."""

@@ -13,10 +13,10 @@ import math
 from collections.abc import Mapping, Sequence
 from dataclasses import dataclass
 
-from ..cluster.aftermath import exceptions_in, present_in
+from ..cluster.aftermath import present_in
 from ..cluster.cleanup import ExceptedGroup, explicit_of, group_fault, mapped_set
 from ..cluster.cluster import Cluster
-from ..cluster.conversion import pool_of
+from ..cluster.entry_forms import exceptions_in, pool_of
 from ..cluster.judge import Places, Reason, judge_of_cluster
 from ..cluster.moving import coming, has_moved
 from ..program.maps import Exceptions, Pool, entries_of, group_key

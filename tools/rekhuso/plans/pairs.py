@@ -7,7 +7,7 @@ from typing import cast
 
 from ..faults import Fault
 from ..program.answers import Up
-from ..program.maps import Map, altered, entries_of, group_key
+from ..program.maps import Map, altered, entries_of, exceptions_where, group_key
 from ..program.session import Session
 from ..words import counted
 
@@ -70,11 +70,8 @@ def settled(session: Session, value: Map) -> Map:
     wanted = session.ups(groups)
     session.change(old_upmap=groups, old_items=groups)
     new = netted(value, wanted, session.ups(groups))
-    own = set(groups)
-    explicit, items = (
-        [entry for entry in entries_of(new, key) if entry[0] in own] for key in ("pg_upmap", "pg_upmap_items")
-    )
-    session.change(new_upmap=explicit, new_items=items)
+    own = exceptions_where(new, set(groups).__contains__)
+    session.change(new_upmap=own["pg_upmap"], new_items=own["pg_upmap_items"])
     after = session.ups(groups)
     unlike = [group for group in groups if wanted[group].places != after[group].places]
     if unlike:

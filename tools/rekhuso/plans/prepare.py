@@ -13,10 +13,11 @@ from collections.abc import Iterator, Mapping, Sequence
 from dataclasses import dataclass
 from itertools import combinations, product
 
-from ..cluster.aftermath import Command, exceptions_in, raw_sets, with_exceptions
+from ..cluster.aftermath import Command, raw_sets, with_exceptions
 from ..cluster.cluster import Cluster
-from ..cluster.conversion import map_of, pool_of
+from ..cluster.conversion import map_of
 from ..cluster.evenness import Spread
+from ..cluster.entry_forms import exceptions_in, pool_of
 from ..cluster.judge import Places
 from ..cluster.map_parts import map_clusters
 from ..cluster.view import view_of_cluster

@@ -7,10 +7,11 @@ from contextlib import ExitStack
 from dataclasses import dataclass
 
 from ..cluster.affinity import affinities_of, all_with_affinity, applied_words
-from ..cluster.aftermath import Aftermath, Arrival, Command, NewMap, StateChange, aftermath, exceptions_in
-from ..cluster.cleanup import excepted_groups, reason_words
+from ..cluster.aftermath import Aftermath, Arrival, Command, NewMap, StateChange, aftermath
+from ..cluster.cleanup import reason_words
 from ..cluster.conversion import monitor_of
 from ..cluster.difference import moved_parts
+from ..cluster.entry_forms import exceptions_in
 from ..cluster.flows import fewer_in, flows, fullest_by_count, fullest_by_share, short_in, thin_sets
 from ..cluster.map_dumps import cluster_of_map
 from ..cluster.misplaced import check_misplaced, misplaced_of
@@ -22,7 +23,7 @@ from ..cluster.view import ClusterView, view_of_cluster
 from ..faults import Fault
 from ..program.answers import Up
 from ..program.map_forms import GROUPS, POOLS, change_form, key_of, parts_of
-from ..program.maps import Change, Entry, Map, Program, group_key, written
+from ..program.maps import Change, Entry, Map, Program, excepted_groups, group_key, written
 from ..values import SLOTS
 from ..words import some
 from .json_forms import FlowParts

@@ -11,11 +11,10 @@ from contextlib import ExitStack
 from dataclasses import dataclass
 from typing import Literal
 
-from ..cluster.aftermath import cleaned_at, exceptions_in, with_exceptions
-from ..cluster.cleanup import excepted_groups
+from ..cluster.aftermath import cleaned_at, with_exceptions
 from ..cluster.cluster import Cluster
-from ..cluster.conversion import pool_of
 from ..cluster.difference import exception_commands
+from ..cluster.entry_forms import exceptions_in, pool_of
 from ..cluster.moving import erasure_pools, leaving
 from ..cluster.names import set_words
 from ..cluster.pool_data import Data
@@ -23,7 +22,7 @@ from ..cluster.unrest import Unrest, unrest_of
 from ..cluster.view import ClusterView, view_of_cluster
 from ..faults import Fault
 from ..program.answers import Up
-from ..program.maps import Entry, Exceptions, Pool, Program, entries_of, group_key, with_all_up
+from ..program.maps import Entry, Exceptions, Pool, Program, entries_of, excepted_groups, group_key, with_all_up
 from ..values import SLOTS
 from ..words import counted
 from .busy import PartSize

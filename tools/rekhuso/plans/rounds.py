@@ -20,7 +20,7 @@ from ..cluster.names import Names
 from ..cluster.pool_data import Data
 from ..cluster.shares import Shares
 from ..faults import Refused
-from ..program.maps import Exceptions, Map, Pool, entries_of
+from ..program.maps import Exceptions, Map, Pool, entries_of, rule_for
 from ..program.session import Session
 from .at_rest import AtRest
 from .loads import (
@@ -83,7 +83,7 @@ class Live:
 
     def has_one_block(self, pool: Pool) -> bool:
         """Whether the rule of a pool has one block, as it must have to be planned."""
-        steps = next(rule["steps"] for rule in self.value["rules"] if rule["id"] == pool["rule"])
+        steps = rule_for(self.value, pool)["steps"]
         return [step[0] for step in steps].count("emit") == 1
 
     def goal_trees(self, pool: Pool) -> list[dict[int, int]]:

@@ -6,7 +6,9 @@ from collections import Counter
 from typing import Any, Iterable, cast
 
 from .map_forms import (
+    EXCEPTIONS,
     GROUPS,
+    NEW_SETS,
     OSDS,
     PARTS,
     POOLS,
@@ -111,7 +113,7 @@ def exception_defects(value: Map) -> Defects:
     """Exceptions of groups or OSDs that are not there, or that break their form."""
     pools = {pool["id"]: pool for pool in value["pools"]}
     there = {osd["id"] for osd in value["osds"] if osd["exists"]}
-    for key in ("pg_upmap", "pg_upmap_items"):
+    for key, kind in EXCEPTIONS.items():
         entries = entries_of(value, key)
         yield from twice((entry[0] for entry in entries), key + "[{}][0]", 17, "group")
         for at, (group, entry) in enumerate(entries):
@@ -119,7 +121,7 @@ def exception_defects(value: Map) -> Defects:
             if pool not in pools or own >= pools[pool]["pg_num"]:
                 yield Defect(17, f"{key}[{at}][0]", f"no group {group}")
                 continue
-            for why in entry_faults(entry, pools[pool]["size"], key == "pg_upmap"):
+            for why in entry_faults(entry, pools[pool]["size"], kind.is_set):
                 yield Defect(17, f"{key}[{at}][1]", why)
             for osd in sorted(set(osds_in(entry)) - there):
                 yield Defect(17, f"{key}[{at}][1]", f"osd.{osd} does not exist")
@@ -220,7 +222,7 @@ class ChangeTest:
                 elif own >= self.sizes[pool]:
                     yield Defect(25, f"{key}[{at}]", f"no group {group}")
                 elif not isinstance(entry, str):
-                    for why in entry_faults(entry[1], self.pools[pool]["size"], key == "new_upmap"):
+                    for why in entry_faults(entry[1], self.pools[pool]["size"], key in NEW_SETS):
                         yield Defect(26, f"{key}[{at}][1]", why)
 
     def double_places(self) -> Defects:

@@ -8,7 +8,7 @@ from __future__ import annotations
 
 import re
 from dataclasses import dataclass
-from typing import Any, Callable, Iterator
+from typing import Any, Callable, Iterator, Literal
 
 from ..values import SLOTS
 
@@ -338,7 +338,7 @@ def map_form(has_tries: bool, is_stock: bool) -> Form:
             "pools": pools(limits),
             "osds": list_of(osd(limits), 0, 2**63),
         },
-        {"pg_upmap": explicit_sets(limits), "pg_upmap_items": pairs(limits)},
+        {key: kind.form(limits) for key, kind in EXCEPTIONS.items()},
     )
 
 
@@ -363,6 +363,34 @@ def entries(entry: Callable[[Limits], Form]) -> Callable[[Limits], Form]:
     return lambda limits: list_of(entry(limits), 0, limits.entries)
 
 
+# The keys of what a change brings as a whole, those in which maps may differ and that no change alters, and the numbers
+# of a pool that a change lets grow, in the order of an entry of `grow_pool`.
+CRUSH_KEYS: tuple[Literal["buckets", "rules"], ...] = ("buckets", "rules")
+FIXED: tuple[Literal["max_osd"], ...] = ("max_osd",)
+GROWING: tuple[Literal["pg_num", "pgp_num"], ...] = ("pg_num", "pgp_num")
+ExceptionKey = Literal["pg_upmap", "pg_upmap_items"]
+
+
+@dataclass(frozen=True, **SLOTS)
+class ExceptionKind:
+    """A kind of exceptions of groups: the form of a map's list of them, the parts of a change by which they go and
+    come, the word that Ceph's commands have for it, and whether each of them is a set of OSDs, else pairs.
+    """
+
+    form: Callable[[Limits], Form]
+    old: str
+    new: str
+    word: str
+    is_set: bool
+
+
+# The exceptions of a map by their keys: explicit sets, and pairs. Modules go by these for their parts and words.
+EXCEPTIONS: dict[ExceptionKey, ExceptionKind] = {
+    "pg_upmap": ExceptionKind(explicit_sets, "old_upmap", "new_upmap", "pg-upmap", True),
+    "pg_upmap_items": ExceptionKind(pairs, "old_items", "new_items", "pg-upmap-items", False),
+}
+# The parts of a change that bring sets of OSDs.
+NEW_SETS = frozenset(kind.new for kind in EXCEPTIONS.values() if kind.is_set)
 # What the entries of a part of a change name: pools, OSDs, groups; or it is no list.
 POOLS, OSDS, GROUPS, CRUSH = "pools", "osds", "groups", "crush"
 

@@ -9,9 +9,9 @@ import json
 import os
 from collections.abc import Mapping
 from functools import lru_cache
-from typing import Any, Dict, List, TypeVar, TypedDict, Union, cast
+from typing import Any, Callable, Dict, List, TypeVar, TypedDict, Union, cast
 
-from .map_forms import LEAF_WORDS
+from .map_forms import EXCEPTIONS, LEAF_WORDS
 
 # A step of a rule: its word, then its numbers. An entry of a table: a group, or an id, and what belongs to it.
 RuleStep = List[Any]
@@ -89,6 +89,46 @@ def altered(value: Altered, **parts: object) -> Altered:
 def entries_of(value: Mapping[str, object], key: str) -> list[Any]:
     """The entries at a key; none where there is no such key."""
     return cast(List[Any], value.get(key, []))
+
+
+def osd_there(number: int, is_up: bool, weight: int) -> Osd:
+    """An OSD that exists, with its reweight in units of 1/65,536."""
+    return {"exists": True, "id": number, "up": is_up, "weight": weight}
+
+
+def osd_gone(number: int, weight: int = 0) -> Osd:
+    """An OSD that does not exist, with the reweight that it has kept."""
+    return {"exists": False, "id": number, "up": False, "weight": weight}
+
+
+def devices_in(value: Map) -> set[int]:
+    """The devices that stand in a map's buckets."""
+    return {item for bucket in value["buckets"] for item, _ in bucket["items"] if item >= 0}
+
+
+def rule_for(value: Map, pool: Pool) -> Rule:
+    """The rule of a pool."""
+    return next(rule for rule in value["rules"] if rule["id"] == pool["rule"])
+
+
+# Exceptions
+
+
+def exceptions_where(exceptions: Mapping[str, object], keeps: Callable[[str], bool]) -> Exceptions:
+    """The exceptions of those groups that a function keeps."""
+    found = {key: [entry for entry in entries_of(exceptions, key) if keeps(entry[0])] for key in EXCEPTIONS}
+    return cast(Exceptions, found)
+
+
+def excepted_groups(exceptions: Mapping[str, object]) -> set[str]:
+    """The groups that have exceptions."""
+    return {entry[0] for key in EXCEPTIONS for entry in entries_of(exceptions, key)}
+
+
+def without_exceptions(value: Map) -> Map:
+    """The map without exceptions."""
+    none: dict[str, list[Entry]] = {key: [] for key in EXCEPTIONS}
+    return altered(value, **none)
 
 
 # What writes values: compact JSON, keys in byte order.

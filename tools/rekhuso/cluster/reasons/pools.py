@@ -3,8 +3,9 @@
 from __future__ import annotations
 
 from ...words import some
-from ..cluster import Cluster, GREATEST_POOL, HASHPSPOOL, KINDS_BY_TYPE
+from ..cluster import Cluster, GREATEST_POOL
 from ..dump_types import DumpPool
+from ..entry_forms import HASHPSPOOL, KINDS_BY_TYPE
 from .counts import FEW, doubles, groups_reason, pools_reason, range_reason
 from .kinds import Against, bare
 

@@ -6,9 +6,10 @@ from ...files import JsonObject
 from ...program.map_forms import RANGES, SETTING, STEP_LENGTHS, TRIES
 from ...program.rule_grammar import rule_fault
 from ...words import listed, some
-from ..cluster import Cluster, KINDS_BY_TYPE
+from ..cluster import Cluster
 from ..dump_forms import WEIGHT_SET, misfits
 from ..dump_types import DumpRule, DumpStep
+from ..entry_forms import KINDS_BY_TYPE
 from ..map_parts import counted_steps
 from ..tunables import SET_BY, TUNABLES, range_of
 from .counts import doubles, range_reason, rules_reason
