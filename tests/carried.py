@@ -9,7 +9,7 @@ from collections import Counter
 
 from rekhuso.plans.guards import is_guard
 
-from tests.clusters import STOCK, Json, copied, raised, with_commands
+from tests.clusters import STOCK, Json, copied, exceptions_in, exceptions_told, raised, with_commands
 from tests.drains import BUILT, come_in, reweighted, weights_of
 from tests.holds import sets_of
 from tests.schemas import faults_of
@@ -48,20 +48,11 @@ class Cluster:
 
     def give(self, lines: list[str]) -> None:
         """Commands of an operator."""
-        tables: Json = {
-            "pg_upmap": [[own["pgid"], own["osds"]] for own in self.dump["pg_upmap"]],
-            "pg_upmap_items": [
-                [own["pgid"], [[pair["from"], pair["to"]] for pair in own["mappings"]]]
-                for own in self.dump["pg_upmap_items"]
-            ],
-        }
+        tables = exceptions_in(self.dump)
         there = {entry[0] for entries in tables.values() for entry in entries}
         pairs = [line for line in lines if "pg-upmap" in line]
         after = with_commands(tables, [line for line in pairs if " rm-" not in line or line.split(" ")[3] in there])
-        self.dump["pg_upmap_items"] = [
-            {"pgid": group, "mappings": [{"from": was, "to": now} for was, now in own]}
-            for group, own in after["pg_upmap_items"]
-        ]
+        self.dump["pg_upmap_items"] = exceptions_told(**after)["pg_upmap_items"]
         self.crush = reweighted(self.crush, weights_of(lines))
         out = {int(word[4:]) for line in lines if line.startswith("ceph osd out ") for word in line.split(" ")[3:]}
         for osd in self.dump["osds"]:

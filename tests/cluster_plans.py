@@ -33,6 +33,7 @@ from tests.clusters import (
     below,
     commands,
     copied,
+    exceptions_told,
     object_parts,
     of_groups,
     places,
@@ -44,6 +45,7 @@ from tests.clusters import (
 from tests.reaches import filled, reach_of
 from tests.runs import zipped
 from tests.tool_cases import StockCase
+from tests.whole_maps import device_weights, item_weights, reweights_of, steps_for
 
 # A map, the hosts of its OSDs, the racks of its hosts, and the weights of its OSDs; how many bytes each pool holds.
 RandomCluster = tuple[Json, dict[int, int], Optional[dict[int, int]], dict[int, int]]
@@ -78,12 +80,8 @@ class Model:
         self.mapped, self.pairs = {}, {}
         for group, osds in value["pg_upmap"]:
             self.mapped[group], self.pairs[group] = list(osds), 0
-        osds = {osd["id"]: osd for osd in value["osds"]}
-        self.weights = {
-            osd: weight_of[osd] * osds[osd]["weight"]
-            for osd in sorted(self.host_of)
-            if osds[osd]["up"] and osds[osd]["weight"]
-        }
+        osds = reweights_of(value)
+        self.weights = {osd: weight_of[osd] * osds[osd] for osd in sorted(self.host_of) if osds.get(osd)}
         held = held if held and any(held.values()) else None
         self.total, self.held, self.first = sum(self.weights.values()), held, copy.deepcopy(self.mapped)
         self.places = {pool["id"]: pool["pg_num"] * pool["size"] for pool in value["pools"]}
@@ -493,11 +491,9 @@ class Measured:
         self.has: tuple[dict[int, float], dict[int, float]] = ({}, {})
         self.share: tuple[dict[int, float], dict[int, float]] = ({}, {})
         for value in maps:
-            items = {item: weight for bucket in value["buckets"] for item, weight in bucket["items"]}
-            osds = {osd["id"]: osd["weight"] for osd in value["osds"] if osd["exists"] and osd["up"]}
+            items, osds = item_weights(value), reweights_of(value)
             for pool in value["pools"]:
-                steps = next(rule["steps"] for rule in value["rules"] if rule["id"] == pool["rule"])
-                taken = [below(value, step[1]) for step in steps if step[0] == "take"]
+                taken = [below(value, step[1]) for step in steps_for(value, pool) if step[0] == "take"]
                 whole = set().union(*taken)
                 mean = of_place[pool["id"]] * pool["pg_num"]
                 own = [
@@ -722,11 +718,11 @@ class ClusterPlans(StockCase):
         )
         value = json.loads(self.output("import", *self.dumps("few", own)))
         led = [
-            {"pgid": group, "mappings": [{"from": osd, "to": 3}]}
+            [group, [[osd, 3]]]
             for group, answer in self.sets(value).items()
             for osd in beside.intersection(places(answer))
         ]
-        own["osd_dump"].update(pg_upmap=[], pg_upmap_items=led[:4])
+        own["osd_dump"].update(exceptions_told([], led[:4]))
         files = self.dumps("few", own)
         now = json.loads(self.output("import", *files))
         paths = self.output("plan", *files, "--batch", 10_000, "--to", "parts").splitlines()
@@ -805,7 +801,7 @@ class ClusterPlans(StockCase):
         pool, before = value["pools"][0], {
             group: places(answer) for group, answer in self.tools.sets(raised(value)).items()
         }
-        weights = {item: weight / 65536 for bucket in value["buckets"] for item, weight in bucket["items"] if item >= 0}
+        weights = {item: weight / 65536 for item, weight in device_weights(value).items()}
         # A group that is not split yet, as the number of groups is no power of two, holds twice as much as another.
         half = 1 << ((pool["pg_num"] - 1).bit_length() - 1)
         place = size / (2 * half * pool["size"])

@@ -18,7 +18,7 @@ from tests import model, soak
 from tests.cases import Case
 from tests.clusters import Json
 from tests.runs import zipped
-from tests.whole_maps import map_of, osd_of, pool_of, rule_of
+from tests.whole_maps import map_of, osd_of, pool_of, reweights_of, rule_of
 
 OSDS, HOSTS, RACKS, GROUPS, LIMIT = 40, 12, 4, 256, 1024
 DOWN, OUT, LIGHTER = [7, 20], [12], {3: 32768, 30: 49152}
@@ -81,10 +81,7 @@ class Pool:
 
     def __init__(self, value: Json, pool: int, sets: list[list[int]], pairs: list[int]) -> None:
         self.sets, self.pairs, self.size = sets, pairs, value["pools"][pool - 1]["size"]
-        state = {osd["id"]: osd for osd in value["osds"]}
-        self.share = {
-            osd: weight(osd) * state[osd]["weight"] for osd in state if state[osd]["up"] and state[osd]["weight"]
-        }
+        self.share = {osd: weight(osd) * own for osd, own in reweights_of(value).items() if own}
         self.total = sum(self.share.values())
         self.keeps_rack = pool == 2
         counts = {osd: sum(osd in places for places in sets) for osd in self.share}

@@ -13,7 +13,7 @@ from collections import Counter
 
 from rekhuso.words import counted
 
-from tests.clusters import Json, commands, kept, raised, with_commands
+from tests.clusters import Json, commands, exceptions_in, exceptions_told, kept, raised, with_commands
 from tests.tool_cases import StockCase
 
 RECORDS = {(own["cluster"], own["change"]): own for own in kept("holds.json.gz")}
@@ -124,18 +124,11 @@ class Holds(StockCase):
 
     def kept_in(self, record: Json) -> Json:
         """The exceptions behind a change once the commands were given that the monitor was given."""
-        dump = record["new_osd_dump"]
-        before = {
-            "pg_upmap": [[entry["pgid"], entry["osds"]] for entry in dump["pg_upmap"]],
-            "pg_upmap_items": [
-                [entry["pgid"], [[pair["from"], pair["to"]] for pair in entry["mappings"]]]
-                for entry in dump["pg_upmap_items"]
-            ],
-        }
+        before = exceptions_in(record["new_osd_dump"])
         there = {entry[0] for key in before for entry in before[key]}
         lines = [line for line in record["given"] if " rm-" not in line or line.split(" ")[3] in there]
         after = with_commands(before, lines)
-        return {key: sorted(after[key], key=order_of) for key in ("pg_upmap", "pg_upmap_items")}
+        return {key: sorted(after[key], key=order_of) for key in before}
 
     def test_figures(self) -> None:
         """What was counted of the monitor's sets: how many groups would move, are held and cannot be, and by what."""
@@ -383,14 +376,7 @@ class Releases(StockCase):
     def setUp(self) -> None:
         super().setUp()
         record = RECORDS[WEIGHT]
-        dump = dict(
-            record["new_osd_dump"],
-            pg_upmap=[{"pgid": group, "osds": osds} for group, osds in record["kept"]["pg_upmap"]],
-            pg_upmap_items=[
-                {"pgid": group, "mappings": [{"from": was, "to": now} for was, now in pairs]}
-                for group, pairs in record["kept"]["pg_upmap_items"]
-            ],
-        )
+        dump = {**record["new_osd_dump"], **exceptions_told(**record["kept"])}
         self.record = record
         self.files = self.tools.put("held", dump), self.tools.put("crush", record["new_crush_dump"])
         self.value = json.loads(self.output("import", *self.files))
@@ -442,11 +428,7 @@ class Releases(StockCase):
         """Groups for which the rule finds fewer places, as in the monitor behind the change, stay held, and are told;
         so they do on the way to a plan."""
         record = RECORDS["takes", "rulerack"]
-        dump = dict(
-            record["new_osd_dump"],
-            pg_upmap=[{"pgid": group, "osds": osds} for group, osds in record["kept"]["pg_upmap"]],
-            pg_upmap_items=[],
-        )
+        dump = {**record["new_osd_dump"], **exceptions_told(record["kept"]["pg_upmap"])}
         files = self.tools.put("whole", dump), self.tools.put("racks", record["new_crush_dump"])
         new = record["new_up"]
         short = [group for group, own in record["up"].items() if group in new and len(new[group][0]) < len(own[0])]

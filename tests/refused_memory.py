@@ -28,7 +28,7 @@ from tests import model
 from tests.cases import EXAMPLES, HERE, Case
 from tests.clusters import Json
 from tests.runs import AT_ONCE
-from tests.whole_maps import ON_HOSTS, ON_OSDS, map_of, osds_of, pool_of, rule_of
+from tests.whole_maps import NO_EXCEPTIONS, ON_HOSTS, ON_OSDS, crush_of, map_of, osds_of, pool_of, rule_of
 
 WAYS = ("a script", "lines twice", "typed", "to a file")
 REFUSED = b"err 30 Memory\n"
@@ -150,9 +150,8 @@ class Stock(Example):
     OPTIONS = ("--stock",)
 
     def __init__(self, command: pathlib.Path, library: pathlib.Path, folder: pathlib.Path, way: str) -> None:
-        none: dict[str, list[Json]] = {"pg_upmap": [], "pg_upmap_items": []}
         forest = straw2_forest([65536, 65536, 131072, 131072, 65536, 262144])
-        stated = map_of(forest["buckets"], forest["rules"], [pool_of(1, 8, 2)], osds_of(6), **none)
+        stated = map_of(forest["buckets"], forest["rules"], [pool_of(1, 8, 2)], osds_of(6), **NO_EXCEPTIONS)
         brought = {
             "base": 1,
             "new_crush": straw2_forest([1, 65536, 65537, 65536, 70000, 65536]),
@@ -236,7 +235,7 @@ class Grown(Written):
             {"id": -2, "items": [[last, weight]], "kind": "straw2", "type": 1},
         ]
         steps = [["take", -2], ["choose_firstn", 0, 0], ["emit"]]
-        return {"buckets": buckets, "rules": [{"id": 0, "kind": "replicated", "steps": steps}]}
+        return {"buckets": buckets, "rules": [rule_of(steps)]}
 
     def stated(self) -> tuple[Json, list[tuple[str, str]]]:
         first = self.forest(1)
@@ -304,7 +303,7 @@ class Judged(Written):
 
     def pairs(self) -> Iterator[tuple[tuple[str, ...], tuple[str, ...]]]:
         """Scripts with what their last lines answer: one that is refused sooner, and one like it."""
-        crush = {"buckets": [{"id": -1, "items": [[2, 1]], "kind": "list", "type": 10}], "rules": two_blocks()["rules"]}
+        crush = crush_of(two_blocks(), buckets=[{"id": -1, "items": [[2, 1]], "kind": "list", "type": 10}])
         yield ('change {"base":-1}', "12 BadLimit"), ('change {"base":0}', self.STALE)
         full = self.MADE + 'change {"base":2}', "28 JournalFull", self.STALE
         yield (self.MADE + 'change {"base":-1}', "12 BadLimit"), full

@@ -20,8 +20,9 @@ from typing import Any
 
 from tests import model
 from tests.cases import HERE, Case
-from tests.clusters import Json
-from tests.rows import MAPS, with_values, written
+from tests.clusters import Json, groups_of
+from tests.rows import written
+from tests.whole_maps import FULL, NO_EXCEPTIONS, ON_OSDS, crush_of, map_of, osd_of, pool_of, rule_of
 
 OSDS, SECONDS = 5, 300
 # A map of fewer groups has one room, and so has a pool of fewer unless rooms take whole pools. There are as many rooms
@@ -38,27 +39,19 @@ WAYS = (("on all processors", None, True), ("on one processor", 1, True), ("with
 
 def a_map(sizes: tuple[int, ...]) -> Json:
     """A map with pools of so many groups and even numbers, over OSDs of which one is down and one half out."""
-    pools = [
-        {"id": 2 * number, "kind": "replicated", "pg_num": groups, "pgp_num": groups, "rule": 0, "size": 2}
-        for number, groups in enumerate(sizes, 1)
-    ]
-    osds = [{"exists": True, "id": osd, "up": osd != 4, "weight": 32768 if osd == 2 else 65536} for osd in range(OSDS)]
-    items = [[osd, 65536 * (1 + osd % 3)] for osd in range(OSDS)]
-    values: Any = {"buckets/0/items": items, "buckets/0/kind": "list", "max_osd": OSDS, "osds": osds, "pools": pools}
-    return with_values(MAPS["one device"], values)
+    pools = [pool_of(2 * number, groups, 2) for number, groups in enumerate(sizes, 1)]
+    osds = [osd_of(osd, osd != 4, 32768 if osd == 2 else FULL) for osd in range(OSDS)]
+    root = {"id": -1, "items": [[osd, FULL * (1 + osd % 3)] for osd in range(OSDS)], "kind": "list", "type": 10}
+    return map_of([root], [rule_of(ON_OSDS)], pools, osds, **NO_EXCEPTIONS)
 
 
 def changes_of(value: Json) -> list[str]:
     """Changes of all groups of such a map: a reweight, another CRUSH map, as many pools more, and a pair for each."""
-    buckets = [
-        {**bucket, "items": [[osd, 65536 * (3 - osd % 3)] for osd in range(OSDS)]} for bucket in value["buckets"]
-    ]
-    pairs = [
-        [f"{pool['id']}.{group:x}", [[0, 1 + group % 3]]] for pool in value["pools"] for group in range(pool["pg_num"])
-    ]
+    items = [[osd, FULL * (3 - osd % 3)] for osd in range(OSDS)]
+    pairs = [[group, [[0, 1 + int(group.split(".")[1], 16) % 3]]] for group in groups_of(value)]
     changes: list[Json] = [
         {"weight": [[0, 32768]]},
-        {"new_crush": {"buckets": buckets, "rules": value["rules"]}},
+        {"new_crush": crush_of(value, buckets=[{**bucket, "items": items} for bucket in value["buckets"]])},
         {"new_pools": [{**pool, "id": pool["id"] - 1} for pool in value["pools"]]},
         {"new_items": pairs},
     ]
