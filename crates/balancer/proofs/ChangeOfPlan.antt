@@ -27,7 +27,8 @@ use Rattle.maptypes.specs.Growth.{with_growths}
 use Rattle.mapparts.specs.Limits.{max_pools, max_total_groups}
 use Rattle.maptypes.specs.Pools.{PoolFacts, total_groups}
 use Rattle.osdmap.specs.Maps.{ClusterMap, osd_exists, has_rule, HoldsTogether}
-use Rattle.osdmap.specs.Changes.{names_osds, weighs_rightly, pools_kept, pools_there, pools_after, all_named_groups, names_pools, brings_new, brings_forest, leaves_few_groups, brings_rightly, names_groups, excepts_soundly, names_once, change_fault, apply}
+use Rattle.osdmap.specs.Changes.{names_osds, weighs_rightly, pools_kept, pools_there, pools_after, names_pools, brings_new, brings_forest, leaves_few_groups, brings_rightly, names_groups, excepts_soundly, change_fault, apply}
+use Rattle.maptypes.specs.Named.{all_named_groups, names_once}
 use Rattle.osdmap.specs.Placement.{group_of}
 use Rattle.osdmap.proofs.PlacementLemmas.{found_passes}
 use Rattle.pgtable.specs.Patches.{changed_map}
@@ -41,7 +42,7 @@ use Rattle.balancer.specs.Boards.{IsReached}
 use Rattle.balancer.proofs.UntouchedByMoves.{with_pairs, moves_stay}
 use Rattle.crush.proofs.Ancestors.{none_passes}
 use Rattle.balancer.proofs.BestCovers.{contains_filter, contains_range}
-use Rattle.balancer.proofs.RisingListsEqual.{rising_same}
+use Rattle.maptypes.proofs.RisingListsEqual.{rising_same}
 
 -- ---- a change that gives pairs alone
 

@@ -23,7 +23,5 @@ pub mod BoundsOfMoves
 pub mod ReachOfMoves
 pub mod StoredMoves
 pub mod GreedyMoveByMove
-pub mod RisingListsEqual
 pub mod ChangeOfPlan
 pub mod WorthOfPlans
-pub mod ChangeInOrder

@@ -8,6 +8,7 @@ use Rattle.refusal.specs.Outcomes.{refused_unless}
 use Rattle.maptypes.specs.declared.change.ChangeParts.{ChangeParts}
 use Rattle.maptypes.specs.declared.exception.Exception.{Exception}
 use Rattle.maptypes.specs.declared.exception.Pair.{Pair}
+use Rattle.maptypes.specs.Named.{items_alone}
 use Rattle.maptypes.specs.Pools.{PoolFacts}
 use Rattle.mapparts.specs.declared.profile.Profile.TheVariants.{Stock}
 use Rattle.osdmap.specs.Maps.{ClusterMap, pool_at}
@@ -49,20 +50,7 @@ moved_items m p moves = map (items_at (after_moves m p moves) p) (filter (is_mov
 
 -- the change that gives these groups their pairs, and does nothing else: as many pools stay as a stock cluster may have
 abbrev pub change_of : List (Exception Pair) → ChangeParts
-change_of items = record {
-  profile = Stock;
-  old_pools = [];
-  new_crush = None;
-  new_pools = [];
-  grow_pool = [];
-  down = [];
-  up = [];
-  weight = [];
-  old_upmap = [];
-  old_items = [];
-  new_upmap = [];
-  new_items = items;
-}
+change_of items = items_alone Stock items
 
 -- the moves of the plan for a pool
 unfoldable pub plan_moves : ClusterMap → ℕ → Aim → ℕ → List Move

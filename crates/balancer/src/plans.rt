@@ -4,8 +4,6 @@ ghost use Rattle.std.specs.Prelude.{◌≡◌, ◌≤◌, ◌<◌, ◌==◌, [],
 ghost use Rattle.std.specs.List.{count_by};
 ghost use Rattle.crush.specs.Grammar.{is_emit};
 ghost use Rattle.refusal.specs.Outcomes.{Judges, Gives};
-ghost use Rattle.keylist.specs.Order.{IsRising};
-ghost use Rattle.maptypes.specs.Exceptions.{key_of};
 ghost use Rattle.osdmap.specs.Maps.{pool_at};
 ghost use Rattle.osdmap.specs.Changes.{change_fault};
 ghost use Rattle.osdmap.specs.Placement.{steps_of};
@@ -14,16 +12,15 @@ ghost use Rattle.balancer.specs.Shares.{has_one_block, aim_of};
 ghost use Rattle.balancer.specs.Reached.{IsBoardFor};
 ghost use Rattle.balancer.specs.Requests.{asked_aim};
 ghost use Rattle.balancer.specs.Greedy.{good_moves, greedy, after_moves};
-ghost use Rattle.balancer.specs.Plans.{change_of, plan_fault, IsPlan, Evens, LeavesNone};
+ghost use Rattle.balancer.specs.Plans.{plan_fault, IsPlan, Evens, LeavesNone};
 
 use crate::board::Board;
 use crate::frame::Frame;
 use crate::planned::PlannedChange;
 use crate::request::Request;
 use crush::Step;
-use keylist::Entries;
 use mapparts::Profile;
-use maptypes::{Change, ChangeParts, Items, Pool};
+use maptypes::{Change, Pool};
 use osdmap::OsdMap;
 use pgtable::PgTable;
 use refusal::{Memory, Refusal};
@@ -59,36 +56,6 @@ fn find_pool(map: &OsdMap, id: u32) -> Result<Pool, Refusal>
     } else {
         Err(Refusal::BalanceRule)
     }
-}
-
-/// An empty part of a change.
-fn nothing<T>(alloc: Global) -> Entries<T>
-    ensures { result ≡ [] }
-{
-    Entries::new(Vec::new(alloc))
-}
-
-/// The change that gives groups their pairs, by group upwards, and does nothing else; or `Memory` (30).
-fn change_of(alloc: Global, items: Vec<Items>) -> Result<Change, Memory>
-    requires { IsRising key_of items.items }
-    ensures { IfOk result (λ change. change ≡ change_of items.items) }
-{
-    let parts = ChangeParts {
-        profile: Profile::Stock,
-        old_pools: nothing(alloc),
-        new_crush: None,
-        new_pools: nothing(alloc),
-        grow_pool: nothing(alloc),
-        down: nothing(alloc),
-        up: nothing(alloc),
-        weight: nothing(alloc),
-        old_upmap: nothing(alloc),
-        old_items: nothing(alloc),
-        new_upmap: nothing(alloc),
-        new_items: Entries::new(items),
-    };
-    let change = Change::new(parts)?;
-    Ok(change)
 }
 
 /// The state of a plan once its moves are made, at most so many; or `Memory` (30).
@@ -139,7 +106,7 @@ pub fn plan(
     let frame = Frame::new(alloc, map, pool, request)?;
     let board = make_moves(alloc, frame, table, request.limit)?;
     let items = board.items(alloc)?;
-    let change = change_of(alloc, items)?;
+    let change = Change::of_items(alloc, Profile::Stock, items)?;
     Ok(PlannedChange {
         change,
         moves: board.moves.len(),

@@ -2,7 +2,6 @@
 ghost use Rattle.std.specs.Prelude.{◌≡◌, IfSome, All};
 ghost use Rattle.monitor.specs.Members.{IsMemberOf, IsNewMemberOf};
 
-use keylist::Entries;
 use mapjson::{read_change, read_map};
 use mapparts::Profile;
 use maptypes::{Change, ChangeParts, Incremental};
@@ -78,20 +77,6 @@ pub fn commit_now<R: Wait + Threads + Sync>(
 pub fn incremental(alloc: Global, epoch: u64) -> Option<Box<Incremental>>
     ensures { IfSome result (λ made. made.value.epoch ≡ epoch) }
 {
-    let change = Change::new(ChangeParts {
-        profile: Profile::Plain,
-        old_pools: Entries::new(Vec::new(alloc)),
-        new_crush: None,
-        new_pools: Entries::new(Vec::new(alloc)),
-        grow_pool: Entries::new(Vec::new(alloc)),
-        down: Entries::new(Vec::new(alloc)),
-        up: Entries::new(Vec::new(alloc)),
-        weight: Entries::new(Vec::new(alloc)),
-        old_upmap: Entries::new(Vec::new(alloc)),
-        old_items: Entries::new(Vec::new(alloc)),
-        new_upmap: Entries::new(Vec::new(alloc)),
-        new_items: Entries::new(Vec::new(alloc)),
-    })
-    .ok()?;
+    let change = Change::new(ChangeParts::none(alloc, Profile::Plain)).ok()?;
     Box::new(alloc, Incremental::new(epoch, change)).ok()
 }

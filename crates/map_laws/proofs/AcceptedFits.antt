@@ -27,10 +27,11 @@ use Rattle.maptypes.specs.Incrementals.{Step}
 use Rattle.maptypes.specs.Ordered.{IsChange}
 use Rattle.maptypes.specs.Pools.{PoolFacts, total_groups, IsWithinLimits}
 use Rattle.osdmap.specs.Maps.{ClusterMap, osd_exists, HoldsTogether}
-use Rattle.osdmap.specs.Changes.{names_osds, weighs_rightly, pools_after, all_named_groups, names_pools, names_groups, excepts_soundly, names_once, change_fault, apply}
+use Rattle.osdmap.specs.Changes.{names_osds, weighs_rightly, pools_after, names_pools, names_groups, excepts_soundly, change_fault, apply}
+use Rattle.maptypes.specs.Named.{all_named_groups, names_once}
 use Rattle.osdmap.specs.PartsOf.{bucket_part, rule_part, pool_part, pg_part, pair_part, exception_part}
 use Rattle.osdmap.proofs.Accepted.{Accepted, accepted}
-use Rattle.osdmap.proofs.Coming.{comes}
+use Rattle.maptypes.proofs.NamedParts.{comes}
 use Rattle.osdmap.proofs.Kept.{HoldsTogether-after, exists-after}
 use Rattle.osdmap.proofs.Named.{below_max}
 use Rattle.partjson.specs.Profiles.{brings_kinds}
@@ -212,14 +213,14 @@ module _ (m : ClusterMap) (c : ChangeParts) (holds : HoldsTogether m) (is : IsCh
   unfolding names_osds names_groups all_named_groups excepts_soundly
   explicit_fit =
       let right = come target is_set c.new_upmap (grind (arith, ok.groups)) (grind (arith, ok.osds)) (grind (arith, ok.sound)) in
-      exceptions_fine next next_holds target is_set pos is_osd_id (target_fine next next_holds) c.new_upmap (comes m c ok is.in_order).upmap (rw pools_next right)
+      exceptions_fine next next_holds target is_set pos is_osd_id (target_fine next next_holds) c.new_upmap (comes c ok.once is.in_order).upmap (rw pools_next right)
 
   -- and so are the pairs that come
   items_fit : exceptions_fit pair_fits (map (exception_part pair_part) c.new_items) ≡ true
   unfolding names_osds names_groups all_named_groups excepts_soundly
   items_fit =
       let right = come sides are_pairs c.new_items (grind (arith, ok.groups)) (grind (arith, ok.osds)) (grind (arith, ok.sound)) in
-      exceptions_fine next next_holds sides are_pairs pair_part pair_fits (pair_fine next next_holds) c.new_items (comes m c ok is.in_order).items (rw pools_next right)
+      exceptions_fine next next_holds sides are_pairs pair_part pair_fits (pair_fine next next_holds) c.new_items (comes c ok.once is.in_order).items (rw pools_next right)
 
   -- the lists of a change rise, as no key stands twice
   record Rise : Type 0 where
@@ -252,7 +253,7 @@ module _ (m : ClusterMap) (c : ChangeParts) (holds : HoldsTogether m) (is : IsCh
         natural_fits 0 18446744073709551615 0 (omega arith) (omega arith),
         ids_fit m.pools c.old_pools holds.pools.within rises.old_pools (grind (arith, ok.pools)),
         crush_fine c.new_crush is.crush_map,
-        new_pools_fit c.new_pools is.pools_within (comes m c ok is.in_order).pools,
+        new_pools_fit c.new_pools is.pools_within (comes c ok.once is.in_order).pools,
         growths_fit c.grow_pool is.growths_within rises.grow_pool,
         osds_fit c.down rises.down (grind (arith, ok.osds)),
         osds_fit c.up rises.up (grind (arith, ok.osds)),

@@ -1,7 +1,6 @@
 -- What is written of a change is read back as that change.
 use Rattle.std.proofs.Common.{◌≡◌, ◌⊎◌, ◌∙◌, inl, inr, ℕ, ◌^◌, ◌<◌, true, ◌&&◌, ◌||◌, List, Some, None, Ok, refl, sym, subst, ap}
 use Rattle.std.specs.Prelude.{IfOk, option_map, pos}
-use Rattle.std.specs.List.{All}
 use Rattle.std.proofs.lemmas.Bool.{and_parts}
 use Rattle.std.proofs.lemmas.List.Elements.{All-map}
 use Rattle.refusal.specs.declared.refused.Refusal.{Refusal}
@@ -22,17 +21,17 @@ use Rattle.mapjson.proofs.Readable.{read-compact_text, IsUtf8-compact_text}
 use Rattle.mapjson.proofs.ReadableChanges.{change_readable}
 use Rattle.mapjson.proofs.ChangeBack.{states_change_parts}
 use Rattle.map_laws.specs.ChangeLaws.{of_profile, IsTextOfChange}
+use Rattle.maptypes.specs.Named.{EachNamed}
 use Rattle.map_laws.proofs.OwnChange.{own_change_stated, own_change_alone, own_change_faultless, fits_with_base}
 use Rattle.map_laws.proofs.ReadBack.{kept_or, kept_of}
 
 -- the groups of a change's parts are named where those of the change are
-pub parts_named : (base : ℕ) (c : ChangeParts) → All (λ g. IsNamed (pg_part g)) c.old_upmap → All (λ g. IsNamed (pg_part g)) c.old_items
-    → All (λ e. IsNamed (pg_part e.pg)) c.new_upmap → All (λ e. IsNamed (pg_part e.pg)) c.new_items → HasNamed (change_parts base c)
-parts_named base c old_upmap old_items new_upmap new_items = record {
-  old_upmap = All-map IsNamed pg_part c.old_upmap old_upmap;
-  old_items = All-map IsNamed pg_part c.old_items old_items;
-  new_upmap = All-map (λ e. IsNamed e.pg) (exception_part pos) c.new_upmap new_upmap;
-  new_items = All-map (λ e. IsNamed e.pg) (exception_part pair_part) c.new_items new_items;
+pub parts_named : (base : ℕ) (c : ChangeParts) → EachNamed (λ g. IsNamed (pg_part g)) c → HasNamed (change_parts base c)
+parts_named base c each = record {
+  old_upmap = All-map IsNamed pg_part c.old_upmap each.old_upmap;
+  old_items = All-map IsNamed pg_part c.old_items each.old_items;
+  new_upmap = All-map (λ e. IsNamed e.pg) (exception_part pos) c.new_upmap each.new_upmap;
+  new_items = All-map (λ e. IsNamed e.pg) (exception_part pair_part) c.new_items each.new_items;
 }
 
 -- each test that a change passes which a text may state

@@ -1,10 +1,9 @@
 -- The changes of a lawful journal, written and read back.
 use Rattle.std.proofs.Common.{◌≡◌, ◌∙◌, ℕ, zero, suc, ◌^◌, ◌<◌, true, List, [], ◌∷◌, map, length, None, refl, sym, ap, subst, arith}
 use Rattle.std.specs.Prelude.{nat_le}
-use Rattle.std.specs.List.{list_all, All}
+use Rattle.std.specs.List.{All}
 use Rattle.std.proofs.lemmas.Bool.Decides.{nat_tests}
-use Rattle.std.proofs.lemmas.List.Elements.{All-head, All-tail, All-weaker}
-use Rattle.std.proofs.lemmas.List.Sums.{AllPass-from_list_all}
+use Rattle.std.proofs.lemmas.List.Elements.{All-head, All-tail}
 use Rattle.mapparts.specs.declared.profile.Profile.{Profile}
 use Rattle.mapparts.specs.declared.profile.Profile.TheVariants.{Plain, Stock}
 use Rattle.mapparts.specs.Profiles.{most_pools}
@@ -15,7 +14,8 @@ use Rattle.maptypes.specs.Incrementals.{Step}
 use Rattle.maptypes.specs.Ordered.{IsChange}
 use Rattle.maptypes.specs.Pools.{PoolFacts, IsWithinLimits}
 use Rattle.osdmap.specs.Maps.{ClusterMap, HoldsTogether}
-use Rattle.osdmap.specs.Changes.{names_osds, weighs_rightly, pools_kept, pools_there, pools_after, all_named_groups, names_pools, brings_new, brings_forest, leaves_few_groups, brings_rightly, names_groups, excepts_soundly, names_once, change_fault, apply, after, IsLawful}
+use Rattle.osdmap.specs.Changes.{names_osds, weighs_rightly, pools_kept, pools_there, pools_after, names_pools, brings_new, brings_forest, leaves_few_groups, brings_rightly, names_groups, excepts_soundly, change_fault, apply, after, IsLawful}
+use Rattle.maptypes.specs.Named.{all_named_groups, names_once}
 use Rattle.osdmap.specs.PartsOf.{pg_part}
 use Rattle.osdmap.proofs.Accepted.{accepted}
 use Rattle.osdmap.proofs.Fitting.{few_numbers}
@@ -27,6 +27,7 @@ use Rattle.mapjson.proofs.Named.{group_named}
 use Rattle.map_laws.specs.Laws.{AreChanges}
 use Rattle.map_laws.specs.ChangeLaws.{of_profile, IsTextOfChange, as_stock, IsJournalReadBack, JournalsAreReadBack}
 use Rattle.map_laws.proofs.AcceptedFits.{pool_within, accepted_fits}
+use Rattle.maptypes.proofs.NamedParts.{each_named}
 use Rattle.map_laws.proofs.ChangeBack.{parts_named, written_change_back}
 
 -- ---- one change
@@ -36,11 +37,6 @@ group_there_named : (pools : List PoolFacts) → All IsWithinLimits pools → (g
 group_there_named pools within g there =
     group_named g (let pool = (pool_within pools g within there).1 in omega (arith, pool)) (few_numbers pools g within there)
 
--- so are those of some that name such groups
-all_there_named : {X : Type 0} (group : X → Pg) (pools : List PoolFacts) → All IsWithinLimits pools → (xs : List X) → list_all (λ x. has_group pools (group x)) xs ≡ true → All (λ x. IsNamed (pg_part (group x))) xs
-all_there_named group pools within xs there =
-    All-weaker (λ x. has_group pools (group x) ≡ true) (λ x. IsNamed (pg_part (group x))) (λ x here. group_there_named pools within (group x) here) xs (AllPass-from_list_all (λ x. has_group pools (group x)) xs there)
-
 module _ (m : ClusterMap) (step : Step) (holds : HoldsTogether m) (is : IsChange step.change) (lawful : change_fault m step.change ≡ None) where
   -- the pools after a change that is not refused are within their limits
   pools_next : All IsWithinLimits (pools_after m step.change)
@@ -49,14 +45,10 @@ module _ (m : ClusterMap) (step : Step) (holds : HoldsTogether m) (is : IsChange
 
   -- the groups that it names are read back
   accepted_named : (base : ℕ) → HasNamed (change_parts base step.change)
-  unfolding names_groups all_named_groups
+  unfolding names_groups
   accepted_named base =
-      let groups = (accepted m step.change lawful).groups in
-      parts_named base step.change
-      (all_there_named (λ g. g) (pools_after m step.change) pools_next step.change.old_upmap (grind (arith, groups)))
-      (all_there_named (λ g. g) (pools_after m step.change) pools_next step.change.old_items (grind (arith, groups)))
-      (all_there_named (λ e. e.pg) (pools_after m step.change) pools_next step.change.new_upmap (grind (arith, groups)))
-      (all_there_named (λ e. e.pg) (pools_after m step.change) pools_next step.change.new_items (grind (arith, groups)))
+      let there = group_there_named (pools_after m step.change) pools_next in
+      parts_named base step.change (each_named (has_group (pools_after m step.change)) (λ g. IsNamed (pg_part g)) step.change there (accepted m step.change lawful).groups)
 
   -- so is the change
   accepted_back : (base : ℕ) → base < 2 ^ 64 → IsTextOfChange (written_change base step.change) base (of_profile Stock step.change)

@@ -1,29 +1,15 @@
 //! The text of a change states that change and no other.
 
 ghost use Rattle.std.specs.Prelude.{◌≡◌, true, IfOk};
-ghost use Rattle.std.specs.List.{All};
-ghost use Rattle.osdmap.specs.PartsOf.{pg_part};
-ghost use Rattle.mapjson.specs.Written.{IsNamed};
 ghost use Rattle.mapjson.specs.WrittenChanges.{fits_text};
 ghost use Rattle.map_laws.specs.ChangeLaws.{of_profile, IsChangeReadBack, ReadChangesFit, AcceptedFits, JournalsAreReadBack};
 
 use mapjson::{read_change, write_change};
 use mapparts::Profile;
-use maptypes::pg_text::group_text_is_read_back;
-use maptypes::{Change, NamesGroup};
+use maptypes::Change;
 use osdmap::OsdMap;
 use refusal::{Memory, Refusal};
 use std::alloc::Global;
-
-/// The text of the group of each entry is read back: for a proof alone.
-fn are_named<T: NamesGroup>(entries: &[T])
-    ensures { All (λ e. IsNamed (pg_part (T.named e))) entries.now }
-{
-    for entry in entries {
-        let pg = entry.group();
-        group_text_is_read_back(pg.pool, pg.number);
-    }
-}
 
 /// The text of a change is read back as that change by each profile within whose limits its numbers and lengths are
 /// (`fits_text`), with whatever base it was written: it has no fault, and states that base and that change of that
@@ -31,11 +17,8 @@ fn are_named<T: NamesGroup>(entries: &[T])
 pub fn written_change_is_read_back(change: &Change)
     ensures { IsChangeReadBack change.now }
 {
-    let parts = change.parts();
-    are_named(&parts.old_upmap);
-    are_named(&parts.old_items);
-    are_named(&parts.new_upmap);
-    are_named(&parts.new_items);
+    let _ = change.parts();
+    change.groups_are_read_back();
 }
 
 /// Each change that was read from a text is of the profile by which it was read, and within its limits.

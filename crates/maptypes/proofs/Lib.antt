@@ -8,3 +8,6 @@ mod Shorts
 pub mod Totals
 mod SetTexts
 mod Replaced
+pub mod RisingListsEqual
+pub mod ItemsAlone
+pub mod NamedParts

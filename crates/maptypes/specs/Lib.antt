@@ -9,3 +9,4 @@ pub mod Values
 pub mod CrushMaps
 pub mod Ordered
 pub mod Incrementals
+pub mod Named

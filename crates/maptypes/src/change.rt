@@ -1,6 +1,6 @@
 //! Changes, and the incrementals that they are with an epoch (Ceph, OSDMap.h: `OSDMap::Incremental`).
 
-ghost use Rattle.std.specs.Prelude.{IfOk, IfSome};
+ghost use Rattle.std.specs.Prelude.{◌≡◌, [], IfOk, IfSome};
 ghost use Rattle.std.specs.List.{All};
 ghost use Rattle.keylist.specs.Order.{SortsBy};
 ghost use Rattle.maptypes.specs.CrushMaps.{IsCrushMap};
@@ -15,6 +15,7 @@ use crate::pool::Pool;
 use keylist::{Entries, Keyed, sort_entries};
 use mapparts::Profile;
 use refusal::Memory;
+use std::alloc::Global;
 use std::marker::Model;
 
 /// The parts of a change, each list in any order. They act in the order in which they stand here.
@@ -44,6 +45,38 @@ pub struct ChangeParts {
     pub new_upmap: Entries<Explicit>,
     /// The pairs that groups get, in place of those they have.
     pub new_items: Entries<Items>,
+}
+
+/// A part that has no entries.
+fn nothing<T>(alloc: Global) -> Entries<T>
+    ensures { result ≡ [] }
+{
+    Entries::new(Vec::new(alloc))
+}
+
+impl ChangeParts {
+    ghost use Rattle.std.specs.Prelude.{◌≡◌};
+    ghost use Rattle.maptypes.specs.Named.{no_parts};
+
+    /// No part at all.
+    pub fn none(alloc: Global, profile: Profile) -> ChangeParts
+        ensures { result ≡ no_parts profile }
+    {
+        ChangeParts {
+            profile,
+            old_pools: nothing(alloc),
+            new_crush: None,
+            new_pools: nothing(alloc),
+            grow_pool: nothing(alloc),
+            down: nothing(alloc),
+            up: nothing(alloc),
+            weight: nothing(alloc),
+            old_upmap: nothing(alloc),
+            old_items: nothing(alloc),
+            new_upmap: nothing(alloc),
+            new_items: nothing(alloc),
+        }
+    }
 }
 
 /// An OSD and its new reweight, in parts of 65,536.
@@ -123,6 +156,9 @@ impl Change {
     ghost use Rattle.std.specs.List.{All};
     ghost use Rattle.maptypes.specs.CrushMaps.{IsCrushMap};
     ghost use Rattle.maptypes.specs.Growth.{IsGrowth};
+    ghost use Rattle.keylist.specs.Order.{IsRising};
+    ghost use Rattle.maptypes.specs.Exceptions.{key_of};
+    ghost use Rattle.maptypes.specs.Named.{items_alone};
     ghost use Rattle.maptypes.specs.Pools.{IsWithinLimits};
     ghost use Rattle.maptypes.specs.Ordered.{IsOrdered, IsInOrder};
 
@@ -159,6 +195,21 @@ impl Change {
                 new_items,
             },
         })
+    }
+
+    /// The change that gives groups their pairs, by group upwards, and does nothing else.
+    ///
+    /// # Errors
+    ///
+    /// `Memory` (30) where there is no memory for it.
+    pub fn of_items(alloc: Global, profile: Profile, items: Vec<Items>) -> Result<Change, Memory>
+        requires { IsRising key_of items.items }
+        ensures { IfOk result (λ change. change ≡ items_alone profile items.items) }
+    {
+        let mut parts = ChangeParts::none(alloc, profile);
+        parts.new_items = Entries::new(items);
+        let change = Change::new(parts)?;
+        Ok(change)
     }
 
     /// The parts, each in ascending order of its keys.

@@ -8,7 +8,7 @@
 //! - `up_set`: the set of a group
 //! - `rules`, `forest_parts`, `rule_parts`, `crush_map`: rules under their ids, buckets and steps that parts stand for,
 //!   and CRUSH maps
-//! - `change`: changes and incrementals
+//! - `change`, `named`: changes and incrementals; what a change names and leaves
 #![tactic(auto)]
 
 pub mod change;
@@ -17,6 +17,7 @@ pub mod exception;
 pub mod exception_parts;
 mod forest_parts;
 pub mod grow;
+pub mod named;
 pub mod osd;
 pub mod pg;
 pub mod pg_text;
@@ -31,6 +32,7 @@ pub use crush_map::CrushMap;
 pub use exception::{Entry, Exception, Explicit, Items, NamesGroup, Pair};
 pub use exception_parts::{StandsFor, exceptions_of};
 pub use grow::Grow;
+pub use named::join_groups_of;
 pub use osd::{OsdState, Presence};
 pub use pg::Pg;
 pub use pool::Pool;

@@ -4,7 +4,8 @@ use Rattle.std.specs.Prelude.{if◌then◌else◌}
 use Rattle.maptypes.specs.declared.change.ChangeParts.{ChangeParts}
 use Rattle.refusal.specs.declared.refused.Refusal.{Refusal}
 use Rattle.osdmap.specs.Maps.{ClusterMap}
-use Rattle.osdmap.specs.Changes.{names_osds, weighs_rightly, names_pools, brings_new, brings_forest, brings_rightly, names_groups, excepts_soundly, names_once, change_fault}
+use Rattle.osdmap.specs.Changes.{names_osds, weighs_rightly, names_pools, brings_new, brings_forest, brings_rightly, names_groups, excepts_soundly, change_fault}
+use Rattle.maptypes.specs.Named.{names_once}
 
 pub record Accepted (m : ClusterMap) (c : ChangeParts) : Type 0 where
   pub osds : names_osds m c ≡ true

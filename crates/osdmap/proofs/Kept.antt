@@ -28,7 +28,8 @@ use Rattle.maptypes.specs.Exceptions.{key_of, has_group, target, sides, all_name
 use Rattle.osdmap.specs.Maps.{ClusterMap, osd_exists, has_rule, is_presence, HoldsTogether}
 use Rattle.maptypes.specs.Incrementals.{Step}
 use Rattle.maptypes.specs.Ordered.{IsChange}
-use Rattle.osdmap.specs.Changes.{names_osds, weighs_rightly, pools_kept, pools_there, pools_after, buckets_after, rules_after, all_named_groups, names_groups, brings_new, has_devices_below, brings_forest, grows_from, leaves_few_groups, brings_rightly, excepts_soundly, names_once, change_fault, apply, with_up, with_weight}
+use Rattle.osdmap.specs.Changes.{names_osds, weighs_rightly, pools_kept, pools_there, pools_after, buckets_after, rules_after, names_groups, brings_new, has_devices_below, brings_forest, grows_from, leaves_few_groups, brings_rightly, excepts_soundly, change_fault, apply, with_up, with_weight}
+use Rattle.maptypes.specs.Named.{all_named_groups, names_once}
 use Rattle.keylist.proofs.Tests.{and_first, and_second, not_true}
 use Rattle.keylist.proofs.KeyedOrder.{rising-filter}
 use Rattle.keylist.proofs.KeyedMaps.{has-entry, entry-put, entry-without, list_all-puts, list_all-filter, rising-puts}

@@ -3,7 +3,6 @@ mod Masks
 pub mod Named
 pub mod Accepted
 pub mod CheckLemmas
-pub mod Coming
 pub mod AfterLemmas
 pub mod Grown
 mod Devices
@@ -20,5 +19,5 @@ pub mod Excepted
 pub mod MappedAlike
 pub mod StandingUp
 pub mod MappedExist
-mod PartsStay
+pub mod PartsStay
 pub mod OthersStay

@@ -1,7 +1,6 @@
 -- A group that is not among the evaluations of a change has the mapped set that it had.
 use Rattle.std.proofs.Common.{◌≡◌, ◌∙◌, refl, sym, ap, subst, ℕ, ◌^◌, ◌<◌, ℤ, pos, negsuc, Bool, true, false, eqb, List, [], ◌∷◌, ◌++◌, map, Option, Some, None, unwrap_or, inl, inr, arith}
-use mathlib.Core.Bool.{false≢true}
-use Rattle.std.specs.Prelude.{is_some, option_and_then}
+use Rattle.std.specs.Prelude.{option_and_then}
 use Rattle.std.specs.List.{list_any, list_all, find, fold, flat_map}
 use Rattle.std.specs.Option.{option_map_or}
 use Rattle.std.proofs.lemmas.Bool.{cases_Bool, eqb-true}
@@ -22,10 +21,10 @@ use Rattle.maptypes.specs.Pools.{PoolFacts, IsWithinLimits}
 use Rattle.maptypes.specs.CrushMaps.{is_rule_over, rule_at}
 use Rattle.crush.specs.Run.{run_of}
 use Rattle.crush.specs.World.{world_of}
-use Rattle.maptypes.specs.Exceptions.{pg_key, key_of, said_of, is_among, target, sides}
+use Rattle.maptypes.specs.Exceptions.{said_of, target, sides}
 use Rattle.osdmap.specs.Maps.{ClusterMap, pool_at, has_rule, HoldsTogether}
 use Rattle.osdmap.specs.Changes.{with_weight, apply}
-use Rattle.osdmap.specs.Evals.{reaches_reweighted, is_touched, is_named, names_reweighted, concerns}
+use Rattle.osdmap.specs.Evals.{reaches_reweighted, is_touched, names_reweighted, concerns}
 use Rattle.maptypes.specs.Sets.{kept_places}
 use Rattle.osdmap.specs.Placement.{placement_input, group_of, existing_osd, placed_devices, raw_set, steps_of}
 use Rattle.osdmap.proofs.Fitting.{not_both, found_of_all}
@@ -35,7 +34,9 @@ use Rattle.osdmap.specs.Changes.{change_fault}
 use Rattle.osdmap.specs.Evals.{is_evaluated}
 use Rattle.osdmap.specs.Placement.{mapped_set}
 use Rattle.osdmap.proofs.MappedAlike.{Agree, alike_map_alike}
-use Rattle.osdmap.proofs.PartsStay.{or_first, or_second, pool_stays, said_stays, weight_stays, IsSame, explicit_agree, items_agree}
+use Rattle.maptypes.specs.Named.{loses}
+use Rattle.maptypes.proofs.NamedParts.{or_first, or_second, IsUnnamed, unnamed, IsUnrenewed, unrenewed}
+use Rattle.osdmap.proofs.PartsStay.{pool_stays, explicit_stays, items_stay, weight_stays, IsSame, explicit_agree, items_agree}
 
 -- ---- raw sets
 
@@ -119,74 +120,42 @@ raw_stays m step p n holds has same none =
 
 -- ---- all of it
 
+-- a group that a change does not concern: the change does not name it, and no exception of it names a reweighted OSD
 record IsUnconcerned (m : ClusterMap) (c : ChangeParts) (g : Pg) : Type 0 where
-  old_upmap : is_among c.old_upmap g ≡ false
-  old_items : is_among c.old_items g ≡ false
-  new_upmap : has_key key_of c.new_upmap (pg_key g) ≡ false
-  new_items : has_key key_of c.new_items (pg_key g) ≡ false
+  unnamed : IsUnnamed c g
   explicit : names_reweighted target c (said_of m.explicit g) ≡ false
   items : names_reweighted sides c (said_of m.items g) ≡ false
 
--- a group that a change does not concern is named by none of its parts, and no exception of it names a reweighted OSD
+-- that is what the test finds
 unconcerned : (m : ClusterMap) (c : ChangeParts) (g : Pg) → concerns m c g ≡ false → IsUnconcerned m c g
-unfolding concerns is_named
+unfolding concerns
 unconcerned m c g none =
     let two = or_first _ (names_reweighted sides c (said_of m.items g)) none in
-    let named = or_first _ (names_reweighted target c (said_of m.explicit g)) two in
-    let three = or_first _ (has_key key_of c.new_items (pg_key g)) named in
-    let olds = or_first _ (has_key key_of c.new_upmap (pg_key g)) three in
     record {
-      old_upmap = or_first (is_among c.old_upmap g) (is_among c.old_items g) olds;
-      old_items = or_second (is_among c.old_upmap g) (is_among c.old_items g) olds;
-      new_upmap = or_second _ (has_key key_of c.new_upmap (pg_key g)) three;
-      new_items = or_second _ (has_key key_of c.new_items (pg_key g)) named;
+      unnamed = unnamed c g (or_first _ (names_reweighted target c (said_of m.explicit g)) two);
       explicit = or_second _ (names_reweighted target c (said_of m.explicit g)) two;
       items = or_second _ (names_reweighted sides c (said_of m.items g)) none;
     }
 
--- what is not there is none
-none_there : {X : Type 0} (o : Option X) → is_some o ≡ false → o ≡ None
-none_there None h = refl
-none_there (Some x) h = absurd (false≢true (sym h))
-
--- what does not touch a pool: no forest comes, the pool does not come nor grow, and its rule reaches no OSD that gets another
--- reweight
+-- what does not touch a pool: it does not make the pool anew, and its rule reaches no OSD that gets another reweight
 pub record IsUntouched (m : ClusterMap) (c : ChangeParts) (p : PoolFacts) : Type 0 where
-  pub crush : c.new_crush ≡ None
-  pub new : has_key (λ q. q.id) c.new_pools p.id ≡ false
-  pub grow : has_key (λ g. g.pool) c.grow_pool p.id ≡ false
+  pub pool : IsUnrenewed c p.id
   pub reach : reaches_reweighted m c p ≡ false
 
--- a pool that a change does not touch is not new, does not grow, keeps its forest and rules, and reaches no reweighted
--- OSD
+-- that is what the test finds
 pub untouched : (m : ClusterMap) (c : ChangeParts) (p : PoolFacts) → is_touched m c p ≡ false → IsUntouched m c p
 unfolding is_touched
-untouched m c p none =
-    let three = or_first _ (reaches_reweighted m c p) none in
-    let two = or_first _ (has_key (λ g. g.pool) c.grow_pool p.id) three in
-    record {
-      crush = none_there c.new_crush (or_first (is_some c.new_crush) (has_key (λ q. q.id) c.new_pools p.id) two);
-      new = or_second (is_some c.new_crush) (has_key (λ q. q.id) c.new_pools p.id) two;
-      grow = or_second _ (has_key (λ g. g.pool) c.grow_pool p.id) three;
-      reach = or_second _ (reaches_reweighted m c p) none;
-    }
+untouched m c p none = record {
+  pool = unrenewed c p.id (or_first _ (reaches_reweighted m c p) none);
+  reach = or_second _ (reaches_reweighted m c p) none;
+}
 
 -- the pool of a change that does not touch it was there
-pub pool_there : (m : ClusterMap) (step : Step) (p : PoolFacts) → pool_at (apply m step).pools p.id ≡ Some p → is_touched (apply m step) step.change p ≡ false → (has_key (λ k. k) step.change.old_pools p.id ≡ false) × (pool_at m.pools p.id ≡ Some p)
+pub pool_there : (m : ClusterMap) (step : Step) (p : PoolFacts) → pool_at (apply m step).pools p.id ≡ Some p → is_touched (apply m step) step.change p ≡ false → (loses step.change p.id ≡ false) × (pool_at m.pools p.id ≡ Some p)
 unfolding apply
 pool_there m step p found none =
     let quiet = untouched (apply m step) step.change p none in
-    pool_stays m step.change p.id p quiet.new quiet.grow found
-
--- the explicit set of a group that a change does not concern stays
-explicit_stays : (m : ClusterMap) (step : Step) (g : Pg) → HoldsTogether m → g.number < 2 ^ 32 → has_key (λ k. k) step.change.old_pools g.pool ≡ false → IsUnconcerned (apply m step) step.change g → said_of (apply m step).explicit g ≡ said_of m.explicit g
-unfolding apply
-explicit_stays m step g holds few pool none = said_stays target _ m holds.pools.within step.change.old_pools step.change.old_upmap step.change.new_upmap m.explicit g few pool none.old_upmap none.new_upmap holds.explicit.sound
-
--- so do its pairs
-items_stay : (m : ClusterMap) (step : Step) (g : Pg) → HoldsTogether m → g.number < 2 ^ 32 → has_key (λ k. k) step.change.old_pools g.pool ≡ false → IsUnconcerned (apply m step) step.change g → said_of (apply m step).items g ≡ said_of m.items g
-unfolding apply
-items_stay m step g holds few pool none = said_stays sides _ m holds.pools.within step.change.old_pools step.change.old_items step.change.new_items m.items g few pool none.old_items none.new_items holds.items.sound
+    pool_stays m step.change p.id p quiet.pool.new quiet.pool.grow found
 
 -- and the reweights of the OSDs that both name
 weights_agree : (m : ClusterMap) (step : Step) (g : Pg) → IsUnconcerned (apply m step) step.change g → said_of (apply m step).explicit g ≡ said_of m.explicit g → said_of (apply m step).items g ≡ said_of m.items g
@@ -207,10 +176,10 @@ others_stay m step p n holds lawful found inside none =
     let limits = found_of_all IsWithinLimits (λ q. eqb q.id p.id) m.pools p there.1 holds.pools.within in
     let few : n < 2 ^ 32 = omega (arith, inside, limits.groups_most) in
     let has = found_passes _ (has_rule m.rules) m.pools p there.1 holds.ruled in
-    let explicit = explicit_stays m step (group_of p n) holds few there.0 quiet in
-    let items = items_stay m step (group_of p n) holds few there.0 quiet in (
+    let explicit = explicit_stays m step (group_of p n) holds few there.0 quiet.unnamed in
+    let items = items_stay m step (group_of p n) holds few there.0 quiet.unnamed in (
       there.1,
       alike_map_alike m (apply m step) p p n
-          (raw_stays m step p n holds has (untouched (apply m step) step.change p touched).crush (untouched (apply m step) step.change p touched).reach)
+          (raw_stays m step p n holds has (untouched (apply m step) step.change p touched).pool.crush (untouched (apply m step) step.change p touched).reach)
           (sym explicit) (sym items) (weights_agree m step (group_of p n) quiet explicit items),
     )

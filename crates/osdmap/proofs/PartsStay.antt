@@ -1,6 +1,5 @@
 -- What a change leaves as it was of the pools, of the exceptions and of the reweights.
-use Rattle.std.proofs.Common.{◌≡◌, ◌≢◌, ◌∙◌, refl, sym, ap, subst, ℕ, ◌^◌, ◌<◌, Bool, true, false, not, ◌&&◌, ◌||◌, cond, eqb, List, [], ◌∷◌, Option, Some, None, unwrap_or, inl, inr, arith}
-use mathlib.Core.Bool.{false≢true}
+use Rattle.std.proofs.Common.{◌≡◌, ◌≢◌, ◌∙◌, refl, sym, ap, subst, ℕ, ◌^◌, ◌<◌, Bool, true, false, not, ◌&&◌, ◌||◌, cond, eqb, List, [], ◌∷◌, map, Option, Some, None, unwrap_or, inl, inr, arith}
 use Rattle.std.specs.Prelude.{slice_index}
 use Rattle.std.specs.List.{All, list_any, list_all, find, filter, fold, flat_map}
 use Rattle.std.specs.Option.{option_map}
@@ -23,23 +22,16 @@ use Rattle.maptypes.specs.declared.pg.Pg.{Pg}
 use Rattle.maptypes.specs.Growth.{Growth, with_growths}
 use Rattle.maptypes.specs.Pools.{PoolFacts, IsWithinLimits}
 use Rattle.maptypes.specs.Exceptions.{pg_key, key_of, said_of, is_among, has_group, all_named, is_exception, is_sound, target, sides, stays, exceptions_after}
-use Rattle.osdmap.specs.Maps.{ClusterMap, pool_at, osd_exists}
-use Rattle.osdmap.specs.Changes.{pools_kept, pools_after, with_weight, pools_there}
+use Rattle.maptypes.specs.Incrementals.{Step}
+use Rattle.maptypes.specs.Named.{loses, NamedRise, explicit_after, items_after}
+use Rattle.maptypes.proofs.NamedParts.{or_first, or_second, IsUnnamed, LeavesRawSets, said_then}
+use Rattle.osdmap.specs.Maps.{ClusterMap, pool_at, osd_exists, HoldsTogether}
+use Rattle.osdmap.specs.Changes.{pools_kept, pools_after, with_weight, pools_there, apply}
 use Rattle.osdmap.specs.Evals.{names_reweighted}
 use Rattle.osdmap.proofs.Fitting.{not_both, same_pool, few_numbers}
 use Rattle.osdmap.proofs.Grown.{entry-with_growths}
 
 -- ---- tests
-
--- what is not either is not the first
-pub or_first : (a b : Bool) → (a || b) ≡ false → a ≡ false
-or_first true b h = h
-or_first false b h = refl
-
--- what is not either is not the second
-pub or_second : (a b : Bool) → (a || b) ≡ false → b ≡ false
-or_second true b h = absurd (false≢true (sym h))
-or_second false b h = h
 
 -- what is neither is not the one and not the other
 neither : (a b : Bool) → a ≡ false → b ≡ false → (not a && not b) ≡ true
@@ -70,16 +62,16 @@ module _ {X : Type 0} (key : X → ℕ) where
 -- ---- pools
 
 -- a pool among those kept was there, and is not among the old ones
-pool_kept : (m : ClusterMap) (c : ChangeParts) (id : ℕ) (p : PoolFacts) → entry_at (λ q. q.id) (pools_kept m c) id ≡ Some p → (has_key (λ k. k) c.old_pools id ≡ false) × (pool_at m.pools id ≡ Some p)
+pool_kept : (m : ClusterMap) (c : ChangeParts) (id : ℕ) (p : PoolFacts) → entry_at (λ q. q.id) (pools_kept m c) id ≡ Some p → (loses c id ≡ false) × (pool_at m.pools id ≡ Some p)
 unfolding pools_kept
-pool_kept m c id p found = by_test (has_key (λ k. k) c.old_pools id) refl (sym (entry-filter (λ (q : PoolFacts). q.id) (λ k. not (has_key (λ j. j) c.old_pools k)) m.pools id) ∙ found)
+pool_kept m c id p found = by_test (loses c id) refl (sym (entry-filter (λ (q : PoolFacts). q.id) (λ k. not (has_key (λ j. j) c.old_pools k)) m.pools id) ∙ found)
   where
-    by_test : (b : Bool) → has_key (λ k. k) c.old_pools id ≡ b → cond (not (has_key (λ k. k) c.old_pools id)) (pool_at m.pools id) None ≡ Some p → (has_key (λ k. k) c.old_pools id ≡ false) × (pool_at m.pools id ≡ Some p)
+    by_test : (b : Bool) → loses c id ≡ b → cond (not (loses c id)) (pool_at m.pools id) None ≡ Some p → (loses c id ≡ false) × (pool_at m.pools id ≡ Some p)
     by_test true is h = let wrong : None ≡ Some p = rw is at h in absurd (cc)
     by_test false is h = (is, rw is at h)
 
 -- a pool that is there and no new one was kept
-pool_put : (m : ClusterMap) (c : ChangeParts) (id : ℕ) (p : PoolFacts) → has_key (λ q. q.id) c.new_pools id ≡ false → entry_at (λ q. q.id) (pools_there m c) id ≡ Some p → (has_key (λ k. k) c.old_pools id ≡ false) × (pool_at m.pools id ≡ Some p)
+pool_put : (m : ClusterMap) (c : ChangeParts) (id : ℕ) (p : PoolFacts) → has_key (λ q. q.id) c.new_pools id ≡ false → entry_at (λ q. q.id) (pools_there m c) id ≡ Some p → (loses c id ≡ false) × (pool_at m.pools id ≡ Some p)
 unfolding pools_there
 pool_put m c id p none found = pool_kept m c id p (sym (entry_untouched (λ (q : PoolFacts). q.id) (pools_kept m c) c.new_pools id none) ∙ found)
 
@@ -94,11 +86,11 @@ unfolding with_growths
 not_grown gs p none = rw (find-none_reverse (λ (g : Growth). eqb g.pool p.id) gs (all_fail (λ g. eqb g.pool p.id) gs none)) refl
 
 -- a pool after a change that is neither new nor grown was there before, and is not among the old ones
-pub pool_stays : (m : ClusterMap) (c : ChangeParts) (id : ℕ) (p : PoolFacts) → has_key (λ q. q.id) c.new_pools id ≡ false → has_key (λ g. g.pool) c.grow_pool id ≡ false → pool_at (pools_after m c) id ≡ Some p → (has_key (λ k. k) c.old_pools id ≡ false) × (pool_at m.pools id ≡ Some p)
+pub pool_stays : (m : ClusterMap) (c : ChangeParts) (id : ℕ) (p : PoolFacts) → has_key (λ q. q.id) c.new_pools id ≡ false → has_key (λ g. g.pool) c.grow_pool id ≡ false → pool_at (pools_after m c) id ≡ Some p → (loses c id ≡ false) × (pool_at m.pools id ≡ Some p)
 unfolding pools_after
 pool_stays m c id p none stays found = by_pool (entry_at (λ q. q.id) (pools_there m c) id) refl (sym (entry-with_growths c.grow_pool (pools_there m c) id) ∙ found)
   where
-    by_pool : (o : Option PoolFacts) → entry_at (λ q. q.id) (pools_there m c) id ≡ o → option_map (with_growths c.grow_pool) (entry_at (λ q. q.id) (pools_there m c) id) ≡ Some p → (has_key (λ k. k) c.old_pools id ≡ false) × (pool_at m.pools id ≡ Some p)
+    by_pool : (o : Option PoolFacts) → entry_at (λ q. q.id) (pools_there m c) id ≡ o → option_map (with_growths c.grow_pool) (entry_at (λ q. q.id) (pools_there m c) id) ≡ Some p → (loses c id ≡ false) × (pool_at m.pools id ≡ Some p)
     by_pool None is h = let wrong : None ≡ Some p = rw is at h in absurd (cc)
     by_pool (Some q) is h =
         let at = find-place (λ (r : PoolFacts). eqb r.id id) (pools_there m c) q is in
@@ -127,11 +119,21 @@ module _ {E : Type 0} (names : E → List ℕ) (sound : List E → Bool) (m : Cl
       let other : is_among gone e.pg ≡ false = subst (λ (x : ℕ). has_key pg_key gone x ≡ false) (sym at) here in
       neither _ _ one other
 
-  pub said_stays : (old : List ℕ) (gone : List Pg) (new es : List (Exception E)) (g : Pg) → g.number < 2 ^ 32 → has_key (λ k. k) old g.pool ≡ false → is_among gone g ≡ false
+  said_stays : (old : List ℕ) (gone : List Pg) (new es : List (Exception E)) (g : Pg) → g.number < 2 ^ 32 → has_key (λ k. k) old g.pool ≡ false → is_among gone g ≡ false
       → has_key key_of new (pg_key g) ≡ false → list_all is_good es ≡ true → said_of (exceptions_after old gone new es) g ≡ said_of es g
   unfolding exceptions_after
   said_stays old gone new es g few pool here none all =
       ap (option_map (λ e. e.entries)) (entry_untouched key_of (filter (stays old gone) es) new (pg_key g) none ∙ find_kept (λ e. eqb (key_of e) (pg_key g)) (stays old gone) is_good es (exception_stays old gone g few pool here) all)
+
+-- the explicit set of a group that a change does not name stays, where its pool does
+pub explicit_stays : (m : ClusterMap) (step : Step) (g : Pg) → HoldsTogether m → g.number < 2 ^ 32 → loses step.change g.pool ≡ false → IsUnnamed step.change g → said_of (apply m step).explicit g ≡ said_of m.explicit g
+unfolding apply
+explicit_stays m step g holds few pool none = said_stays target _ m holds.pools.within step.change.old_pools step.change.old_upmap step.change.new_upmap m.explicit g few pool none.old_upmap none.new_upmap holds.explicit.sound
+
+-- so do its pairs
+pub items_stay : (m : ClusterMap) (step : Step) (g : Pg) → HoldsTogether m → g.number < 2 ^ 32 → loses step.change g.pool ≡ false → IsUnnamed step.change g → said_of (apply m step).items g ≡ said_of m.items g
+unfolding apply
+items_stay m step g holds few pool none = said_stays sides _ m holds.pools.within step.change.old_pools step.change.old_items step.change.new_items m.items g few pool none.old_items none.new_items holds.items.sound
 
 -- ---- reweights
 
@@ -173,3 +175,36 @@ module _ (weights : List ℕ) (ws : List Reweight) where
   pub items_agree : (c : ChangeParts) (said : Option (List Pair)) → c.weight ≡ ws → names_reweighted sides c said ≡ false → All IsSame (flat_map sides (unwrap_or said []))
   items_agree c None is none = All-nil IsSame
   items_agree c (Some pairs) is none = sides_agree pairs (rw is at none)
+
+-- ---- changes that leave all raw sets
+
+-- all stay where none goes
+all_stay : {X : Type 0} (xs : List X) → filter (λ x. true) xs ≡ xs
+all_stay [] = refl
+all_stay (x ∷ xs) = ap (λ ys. x ∷ ys) (all_stay xs)
+
+-- none grows
+none_grown : (ps : List PoolFacts) → map (with_growths []) ps ≡ ps
+unfolding with_growths
+none_grown [] = refl
+none_grown (p ∷ ps) = ap (λ qs. p ∷ qs) (none_grown ps)
+
+-- so the pools stay
+pub pools_left : (m : ClusterMap) (step : Step) → LeavesRawSets step.change → (apply m step).pools ≡ m.pools
+unfolding apply pools_after pools_there pools_kept
+pools_left m step s = rw (s.grow_pool, s.new_pools, s.old_pools) (none_grown _ ∙ all_stay m.pools)
+
+-- and the reweights
+pub weights_left : (m : ClusterMap) (step : Step) → LeavesRawSets step.change → (apply m step).weights ≡ m.weights
+unfolding apply
+weights_left m step s = rw s.weight refl
+
+-- the explicit set of a group is what such a change makes of it
+pub explicit_then : (m : ClusterMap) (step : Step) (g : Pg) → LeavesRawSets step.change → NamedRise step.change → said_of (apply m step).explicit g ≡ explicit_after step.change (said_of m.explicit g) g
+unfolding apply
+explicit_then m step g s rise = rw s.old_pools (said_then step.change.old_upmap step.change.new_upmap m.explicit g rise.new_upmap)
+
+-- so are its pairs
+pub items_then : (m : ClusterMap) (step : Step) (g : Pg) → LeavesRawSets step.change → NamedRise step.change → said_of (apply m step).items g ≡ items_after step.change (said_of m.items g) g
+unfolding apply
+items_then m step g s rise = rw s.old_pools (said_then step.change.old_items step.change.new_items m.items g rise.new_items)

@@ -1,5 +1,5 @@
 -- Changes: what refuses one, the map after one, and what makes a journal of them lawful.
-use Rattle.std.specs.Prelude.{◌≡◌, ℕ, ◌+◌, Bool, true, false, not, ◌&&◌, ◌||◌, pos, int_lt, List, [], ◌∷◌, ◌++◌, length, map, Option, Some, None, slice_get, slice_set, nat_le, if◌then◌else◌}
+use Rattle.std.specs.Prelude.{◌≡◌, ℕ, ◌+◌, Bool, true, false, not, ◌&&◌, ◌||◌, pos, int_lt, List, [], ◌∷◌, length, map, Option, Some, None, slice_get, slice_set, nat_le, if◌then◌else◌}
 use Rattle.std.specs.List.{list_all, filter, fold}
 use Rattle.std.specs.Option.{option_map_or}
 use Rattle.buckets.specs.declared.bucket.Bucket.{Bucket}
@@ -10,15 +10,15 @@ use Rattle.refusal.specs.declared.refused.Refusal.{Refusal}
 use Rattle.maptypes.specs.declared.rules.NumberedRule.{NumberedRule}
 use Rattle.maptypes.specs.Growth.{Growth, with_growths}
 use Rattle.refusal.specs.declared.refused.Refusal.TheVariants.{UnknownOsd, BadWeight, UnknownPool, PoolExists, BadForest, BadPool, UnknownGroup, BadNewException, DuplicatePart}
-use Rattle.maptypes.specs.declared.pg.Pg.{Pg}
+use Rattle.maptypes.specs.Named.{loses, all_named_groups, names_once}
 use Rattle.maptypes.specs.Incrementals.{Step}
 use Rattle.mapparts.specs.Limits.{max_total_groups}
 use Rattle.mapparts.specs.Profiles.{most_pools}
 use Rattle.crush.specs.Limits.{full_weight}
 use Rattle.maptypes.specs.Pools.{PoolFacts, total_groups}
-use Rattle.keylist.specs.Keys.{is_distinct, has_key}
+use Rattle.keylist.specs.Keys.{is_distinct}
 use Rattle.keylist.specs.Puts.{put}
-use Rattle.maptypes.specs.Exceptions.{pg_key, key_of, has_pool, has_pool_of, has_group, target, sides, all_named, is_set, are_pairs, is_sound, exceptions_after}
+use Rattle.maptypes.specs.Exceptions.{has_pool, has_pool_of, has_group, target, sides, all_named, is_set, are_pairs, is_sound, exceptions_after}
 use Rattle.osdmap.specs.Maps.{ClusterMap, pool_at, osd_exists, has_rule}
 
 -- ---- refusals
@@ -35,7 +35,7 @@ weighs_rightly c = list_all (λ w. nat_le w.weight full_weight) c.weight
 
 -- the pools that stay
 unfoldable pub pools_kept : ClusterMap → ChangeParts → List PoolFacts
-pools_kept m c = filter (λ p. not (has_key (λ id. id) c.old_pools p.id)) m.pools
+pools_kept m c = filter (λ p. not (loses c p.id)) m.pools
 
 -- the pools that are there once the old ones went and the new ones came, of a pool that comes twice the last one
 unfoldable pub pools_there : ClusterMap → ChangeParts → List PoolFacts
@@ -51,12 +51,6 @@ buckets_after m c = option_map_or (λ k. k.buckets) c.new_crush m.buckets
 
 abbrev pub rules_after : ClusterMap → ChangeParts → List NumberedRule
 rules_after m c = option_map_or (λ k. k.rules) c.new_crush m.rules
-
--- each group that is named passes a test
-unfoldable pub all_named_groups : (Pg → Bool) → ChangeParts → Bool
-all_named_groups p c =
-    list_all p c.old_upmap && list_all p c.old_items && list_all (λ e. p e.pg) c.new_upmap
-    && list_all (λ e. p e.pg) c.new_items
 
 -- each pool that is taken away is there; each that grows, and the pool of each group that is named, is there once the
 -- old ones went and the new ones came
@@ -104,16 +98,6 @@ unfoldable pub excepts_soundly : ClusterMap → ChangeParts → Bool
 excepts_soundly m c =
     list_all (is_sound is_set (pools_after m c)) c.new_upmap
     && list_all (is_sound are_pairs (pools_after m c)) c.new_items
-
--- no key stands twice in a part, nor in both parts of a couple
-unfoldable pub names_once : ChangeParts → Bool
-names_once c =
-    is_distinct (map (λ id. id) c.old_pools ++ map (λ p. p.id) c.new_pools)
-    && is_distinct (map (λ p. p.id) c.new_pools ++ map (λ g. g.pool) c.grow_pool)
-    && is_distinct (map (λ osd. osd) c.down ++ map (λ osd. osd) c.up)
-    && is_distinct (map (λ w. w.osd) c.weight)
-    && is_distinct (map pg_key c.old_upmap ++ map key_of c.new_upmap)
-    && is_distinct (map pg_key c.old_items ++ map key_of c.new_items)
 
 -- the first refusal that applies, each over all parts
 abbrev pub change_fault : ClusterMap → ChangeParts → Option Refusal

@@ -1,12 +1,13 @@
 -- How many groups' placement a change can alter.
-use Rattle.std.specs.Prelude.{ℕ, Bool, false, ◌||◌, pos, List, Option, is_some}
+use Rattle.std.specs.Prelude.{ℕ, Bool, false, ◌||◌, pos, List, Option}
 use Rattle.std.specs.List.{list_any, sum_by, count_by, range_with_len}
 use Rattle.std.specs.Option.{option_map_or}
 use Rattle.crush.specs.Paths as paths
 use Rattle.keylist.specs.Keys.{has_key}
 use Rattle.maptypes.specs.declared.change.ChangeParts.{ChangeParts}
 use Rattle.maptypes.specs.declared.pg.Pg.{Pg}
-use Rattle.maptypes.specs.Exceptions.{pg_key, key_of, is_among, said_of, target, sides}
+use Rattle.maptypes.specs.Exceptions.{said_of, target, sides}
+use Rattle.maptypes.specs.Named.{is_named, renews}
 use Rattle.maptypes.specs.Pools.{PoolFacts}
 use Rattle.osdmap.specs.Maps.{ClusterMap}
 use Rattle.osdmap.specs.Placement.{group_of, steps_of}
@@ -15,18 +16,9 @@ use Rattle.osdmap.specs.Placement.{group_of, steps_of}
 unfoldable pub reaches_reweighted : ClusterMap → ChangeParts → PoolFacts → Bool
 reaches_reweighted m c p = list_any (λ w. paths.reaches m.buckets (steps_of m p) (pos w.osd)) c.weight
 
--- whether all groups of a pool are evaluated: the forest and the rules are replaced, the pool comes or grows with the
--- change, or its rule reaches such an OSD
+-- whether all groups of a pool are evaluated: the change makes the pool anew, or its rule reaches such an OSD
 unfoldable pub is_touched : ClusterMap → ChangeParts → PoolFacts → Bool
-is_touched m c p =
-    is_some c.new_crush || has_key (λ q. q.id) c.new_pools p.id || has_key
-    (λ g. g.pool) c.grow_pool p.id || reaches_reweighted m c p
-
--- whether exceptions of a group go or come
-unfoldable pub is_named : ChangeParts → Pg → Bool
-is_named c g =
-    is_among c.old_upmap g || is_among c.old_items g
-    || has_key key_of c.new_upmap (pg_key g) || has_key key_of c.new_items (pg_key g)
+is_touched m c p = renews c p.id || reaches_reweighted m c p
 
 -- whether an exception names an OSD that gets another reweight
 abbrev pub names_reweighted : {E : Type 0} → (E → List ℕ) → ChangeParts → Option (List E) → Bool

@@ -2,12 +2,10 @@
 
 mod devices;
 mod groups;
-mod once;
 mod osds;
 mod pools;
 mod rules;
 
-use crate::check::once::names_once;
 use crate::check::osds::weighs_rightly;
 use crate::map::OsdMap;
 use maptypes::Change;
@@ -64,7 +62,7 @@ impl OsdMap {
         if !self.excepts_soundly(change) {
             return Err(Refusal::BadNewException);
         }
-        if !names_once(change) {
+        if !change.names_once() {
             return Err(Refusal::DuplicatePart);
         }
         Ok(())

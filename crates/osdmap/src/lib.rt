@@ -6,8 +6,7 @@
 //! - `build/pools`, `build/osds`, `build/exceptions`: its pools, its OSDs and its exceptions
 //! - `copy`: a copy of a map
 //! - `check`: what a map refuses of a change
-//! - `check/osds`, `check/pools`, `check/devices`, `check/rules`, `check/groups`, `check/once`: where each number is
-//!   looked for
+//! - `check/osds`, `check/pools`, `check/devices`, `check/rules`, `check/groups`: where each number is looked for
 //! - `apply`, `in_place`: the map after a change, and changes made where the lists of a map stand
 //! - `placement`: where a map places the groups of its pools
 //! - `placing`: what places the groups of one pool

@@ -1,35 +1,32 @@
 -- The groups that a change concerns are among the candidates, and are found among these in their order.
-use Rattle.std.proofs.Common.{◌≡◌, ◌∙◌, refl, sym, ap, subst, ℕ, zero, suc, ◌⊎◌, ◌+◌, ◌-◌, ◌*◌, ◌^◌, ◌<◌, ◌≤◌, Bool, true, false, ◌&&◌, ◌||◌, eqb, List, [], ◌∷◌, ◌++◌, length, take, map, Option, Some, None, inl, inr, arith}
+use Rattle.std.proofs.Common.{◌≡◌, ◌∙◌, refl, sym, ap, subst, ℕ, zero, suc, ◌+◌, ◌-◌, ◌*◌, ◌^◌, ◌<◌, ◌≤◌, Bool, true, false, ◌&&◌, ◌||◌, eqb, List, [], ◌∷◌, length, map, Option, Some, None, inl, inr, arith}
 use mathlib.Core.Bool.{false≢true}
 use Rattle.std.specs.Prelude.{nat_lt, nat_le, filter_map, is_some}
 use Rattle.std.specs.List.{All, list_any, filter, range_with_len}
 use Rattle.std.proofs.lemmas.Bool.{cases_Bool, cases_order, eqb-true}
 use Rattle.std.proofs.lemmas.Bool.Decides.{nat_tests}
 use Rattle.std.proofs.lemmas.List.Elements.{All-nil, All-cons, All-head, All-tail, filter_agree}
-use Rattle.std.proofs.lemmas.List.{get_or-map, length-map, take_all}
+use Rattle.std.proofs.lemmas.List.{get_or-map, length-map}
 use Rattle.std.proofs.lemmas.List.FromFn.{length-range_with_len, get_or-range_with_len}
-use Rattle.keylist.specs.Keys.{has_key, entry_at, is_distinct}
+use Rattle.keylist.specs.Keys.{has_key, entry_at}
 use Rattle.keylist.specs.Order.{IsRising}
-use Rattle.keylist.proofs.KeyedDistinct.{key_among, distinct-append}
-use Rattle.keylist.proofs.KeyedMaps.{has-entry, has-puts, rising-puts}
-use Rattle.keylist.proofs.KeyedOrder.{distinct_rises}
+use Rattle.keylist.proofs.KeyedDistinct.{key_among}
+use Rattle.keylist.proofs.KeyedMaps.{has-entry}
 use Rattle.maptypes.specs.declared.pg.Pg.{Pg}
 use Rattle.maptypes.specs.declared.exception.Exception.{Exception}
 use Rattle.maptypes.specs.declared.change.ChangeParts.{ChangeParts}
 use Rattle.maptypes.specs.declared.change.Reweight.{Reweight}
-use Rattle.maptypes.specs.Exceptions.{pg_key, key_of, said_of, is_among, target, sides}
-use Rattle.maptypes.specs.Ordered.{IsInOrder}
+use Rattle.maptypes.specs.Exceptions.{pg_key, key_of, said_of, target, sides}
 use Rattle.maptypes.specs.Pools.{PoolFacts}
 use Rattle.osdmap.specs.Maps.{ClusterMap}
-use Rattle.osdmap.specs.Changes.{change_fault, names_once}
-use Rattle.osdmap.specs.Evals.{is_named, names_reweighted, concerns}
+use Rattle.osdmap.specs.Evals.{names_reweighted, concerns}
+use Rattle.maptypes.specs.Named.{is_named, excepted_groups, union_of, named_groups}
+use Rattle.maptypes.proofs.NamedParts.{or_cases, some_or, other_or, groups_have, has_joined, named_has}
 use Rattle.osdmap.specs.Placement.{group_of}
-use Rattle.osdmap.proofs.Accepted.{accepted}
-use Rattle.osdmap.proofs.Coming.{comes}
 use Rattle.keylist.proofs.KeyedOrder.{rising_head, rising_tail, rising_from, rising-filter}
 use Rattle.keylist.proofs.Tests.{and_first, and_second}
 use Rattle.keylist.proofs.Each.{same_tests}
-use Rattle.pgtable.specs.Candidates.{NamedRise, excepted_groups, union_of, named_groups, candidates_by, candidates, number_at}
+use Rattle.pgtable.specs.Candidates.{candidates_by, candidates, number_at}
 use Rattle.pgtable.specs.Candidates as spec
 use Rattle.pgtable.specs.Patches.{concerned_numbers}
 use Rattle.pgtable.proofs.Keeping.{among}
@@ -235,80 +232,6 @@ concerned_found m c p groups up complete =
 
 -- ---- candidates
 
--- the groups of exceptions are those that have one
-groups_have : {E : Type 0} (es : List (Exception E)) (k : ℕ) → has_key pg_key (excepted_groups es) k ≡ has_key key_of es k
-groups_have [] k = refl
-groups_have (e ∷ es) k = ap (λ b. eqb (key_of e) k || b) (groups_have es k)
-
--- they rise where the exceptions do
-pub groups_rise : {E : Type 0} (es : List (Exception E)) → IsRising key_of es → IsRising pg_key (excepted_groups es)
-groups_rise es up i j d less inside =
-    let long : length (excepted_groups es) ≡ length es = length-map es (λ e. e.pg) in
-    let last : j < length es = omega (arith, long, inside) in
-    by_element es up i j d less last (element es i (omega arith))
-  where
-    by_element : {E : Type 0} (es : List (Exception E)) → IsRising key_of es → (i j : ℕ) (d : Pg) → i < j → j < length es → Exception E → pg_key (Rattle.std.proofs.Common.get_or (excepted_groups es) i d) < pg_key (Rattle.std.proofs.Common.get_or (excepted_groups es) j d)
-    by_element es up i j d less last e = rw (get_or-map (λ x. x.pg) es i e d (omega arith), get_or-map (λ x. x.pg) es j e d last) (up i j e less last)
-
-    element : {X : Type 0} (xs : List X) (i : ℕ) → i < length xs → X
-    element [] i inside = absurd (omega arith)
-    element (x ∷ xs) i inside = x
-
--- of distinct keys in two lists those of the first are
-first_distinct : (ks js : List ℕ) → is_distinct (ks ++ js) ≡ true → is_distinct ks ≡ true
-first_distinct ks js h = let parts = distinct-append ks js in grind (arith, parts, h)
-
--- the groups that an accepted change names rise in each part
-pub named_rise : (m : ClusterMap) (c : ChangeParts) → change_fault m c ≡ None → IsInOrder c → NamedRise c
-unfolding names_once
-named_rise m c lawful ordered =
-    let ok = accepted m c lawful in
-    let new = comes m c ok ordered in
-    record {
-      old_upmap = distinct_rises pg_key c.old_upmap ordered.old_upmap (first_distinct (map pg_key c.old_upmap) (map key_of c.new_upmap) (grind (arith, ok.once)));
-      old_items = distinct_rises pg_key c.old_items ordered.old_items (first_distinct (map pg_key c.old_items) (map key_of c.new_items) (grind (arith, ok.once)));
-      new_upmap = new.upmap;
-      new_items = new.items;
-    }
-
--- ---- all that are concerned
-
--- of two tests of which one passes, one does
-or_cases : (a b : Bool) → (a || b) ≡ true → (a ≡ true) ⊎ (b ≡ true)
-or_cases true b h = inl refl
-or_cases false b h = inr h
-
--- the first that passes is enough
-some_or : (a b : Bool) → a ≡ true → (a || b) ≡ true
-some_or a b h = rw h refl
-
--- so is the second
-other_or : (a b : Bool) → b ≡ true → (a || b) ≡ true
-other_or a b h = rw h (true_behind a)
-
--- a group is among two lists joined where it is in either
-has_joined : (some others : List Pg) (k : ℕ) → has_key pg_key (union_of some others) k ≡ (has_key pg_key others k || has_key pg_key some k)
-has_joined some others k = has-puts pg_key some others k
-
--- a group that a change names is among those named
-named_has : (c : ChangeParts) (g : Pg) → is_named c g ≡ true → has_key pg_key (named_groups c) (pg_key g) ≡ true
-unfolding is_named
-named_has c g named =
-    let k = pg_key g in
-    let both = union_of c.old_upmap c.old_items in
-    let three = union_of both (excepted_groups c.new_upmap) in
-    let in_both = λ (h : (is_among c.old_upmap g || is_among c.old_items g) ≡ true). has_joined c.old_upmap c.old_items k ∙ elim (or_cases _ _ h) [
-      | inl first ↦ other_or (has_key pg_key c.old_items k) (has_key pg_key c.old_upmap k) first
-      | inr second ↦ some_or (has_key pg_key c.old_items k) (has_key pg_key c.old_upmap k) second
-    ] in
-    has_joined three (excepted_groups c.new_items) k ∙ elim (or_cases _ _ named) [
-      | inr last ↦ some_or _ _ (groups_have c.new_items k ∙ last)
-      | inl rest ↦ other_or _ _ (has_joined both (excepted_groups c.new_upmap) k ∙ elim (or_cases _ _ rest) [
-        | inr third ↦ some_or _ _ (groups_have c.new_upmap k ∙ third)
-        | inl olds ↦ other_or _ _ (in_both olds)
-      ])
-    ]
-
 -- where no number passes, none of a list does
 none_of : (p : ℕ → Bool) (xs : List ℕ) → ((x : ℕ) → p x ≡ false) → list_any p xs ≡ false
 none_of p [] none = refl
@@ -373,13 +296,3 @@ pub concerned_alike : (m n : ClusterMap) (c : ChangeParts) (p : PoolFacts) → c
 concerned_alike m n c p none =
     filter_agree (λ k. concerns m c (group_of p k)) (λ k. concerns n c (group_of p k))
     (λ k. concerns_named m c (group_of p k) none ∙ sym (concerns_named n c (group_of p k) none)) (range_with_len 0 p.pg_num)
-
--- the groups of exceptions with rising keys, and groups with others among them, rise
-pub groups_rise_all : {E : Type 0} (es : List (Exception E)) (gs : List Pg) (i : ℕ) → IsRising key_of es → gs ≡ excepted_groups (take i es) → length es ≤ i → IsRising pg_key gs
-groups_rise_all es gs i up is past =
-    let all : gs ≡ excepted_groups es = is ∙ ap excepted_groups (take_all i es past) in
-    rw all (groups_rise es up)
-
--- joined groups rise
-pub joined_rise : (some others gs : List Pg) → IsRising pg_key some → gs ≡ union_of some others → IsRising pg_key gs
-joined_rise some others gs up is = rw is (rising-puts pg_key some others up)

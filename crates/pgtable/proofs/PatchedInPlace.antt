@@ -15,12 +15,14 @@ use Rattle.maptypes.specs.Pools.{PoolFacts}
 use Rattle.osdmap.specs.Maps.{ClusterMap, pool_at, HoldsTogether}
 use Rattle.osdmap.specs.Evals.{evals_of}
 use Rattle.osdmap.proofs.Fitting.{pool_within}
-use Rattle.pgtable.proofs.ChangedSets.{LeavesRawSets, pools_stay, none_touched, source_concerned, none_concerned}
+use Rattle.maptypes.specs.Named.{is_empty}
+use Rattle.maptypes.proofs.NamedParts.{LeavesRawSets}
+use Rattle.pgtable.proofs.ChangedSets.{pools_stay, none_touched, source_concerned, none_concerned}
 use Rattle.pgtable.proofs.Keeping.{evals_changes, lead_none}
 use Rattle.pgtable.specs.declared.pool_table.PoolTable.{PoolTable}
 use Rattle.pgtable.specs.Tables.{TableFacts, pool_table, tables_of, IsTableOf}
 use Rattle.pgtable.specs.Candidates.{IsCandidates}
-use Rattle.pgtable.specs.Patches.{changed_map, changes_of, is_empty, with_sets, concerned_numbers, IsSource, LeadGroups, LeadsFrom, FitGroups, evals_in, with_patch}
+use Rattle.pgtable.specs.Patches.{changed_map, changes_of, with_sets, concerned_numbers, IsSource, LeadGroups, LeadsFrom, FitGroups, evals_in, with_patch}
 use Rattle.pgtable.proofs.KeptTables.{same_lists, long_zip, get_zip}
 use Rattle.pgtable.proofs.Found.{found_at}
 use Rattle.pgtable.proofs.Making.{element, get_before, get_behind, get_past, evals_whole}

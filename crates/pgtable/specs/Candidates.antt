@@ -1,38 +1,16 @@
 -- The groups that a change can concern, found without looking at all groups.
-use Rattle.std.specs.Prelude.{◌≡◌, true, ℕ, ◌+◌, ◌*◌, ◌-◌, ◌^◌, Bool, ◌&&◌, nat_lt, nat_le, List, [], ◌∷◌, map, filter_map, Option, Some, None, if◌then◌else◌}
-use Rattle.std.specs.List.{fold}
+use Rattle.std.specs.Prelude.{◌≡◌, true, ℕ, ◌+◌, ◌*◌, ◌-◌, ◌^◌, Bool, ◌&&◌, nat_lt, nat_le, List, [], ◌∷◌, filter_map, Option, Some, None, if◌then◌else◌}
 use Rattle.keylist.specs.Keys.{has_key}
 use Rattle.keylist.specs.Order.{IsRising}
-use Rattle.keylist.specs.Puts.{put}
 use Rattle.maptypes.specs.declared.pg.Pg.{Pg}
-use Rattle.maptypes.specs.declared.exception.Exception.{Exception}
 use Rattle.maptypes.specs.declared.change.ChangeParts.{ChangeParts}
 use Rattle.maptypes.specs.declared.change.Reweight.{Reweight}
-use Rattle.maptypes.specs.Exceptions.{pg_key, key_of}
+use Rattle.maptypes.specs.Exceptions.{pg_key}
+use Rattle.maptypes.specs.Named.{excepted_groups, union_of, named_groups}
 use Rattle.maptypes.specs.Pools.{PoolFacts}
 use Rattle.osdmap.specs.Maps.{ClusterMap}
 use Rattle.osdmap.specs.Evals.{concerns}
 use Rattle.osdmap.specs.Placement.{group_of}
-
--- the groups of some exceptions
-abbrev pub excepted_groups : {E : Type 0} → List (Exception E) → List Pg
-excepted_groups es = map (λ e. e.pg) es
-
--- the groups of two rising lists, as one
-abbrev pub union_of : List Pg → List Pg → List Pg
-union_of some others = fold (put pg_key) some others
-
--- the groups that a change names
-abbrev pub named_groups : ChangeParts → List Pg
-named_groups c =
-    union_of (union_of (union_of c.old_upmap c.old_items) (excepted_groups c.new_upmap)) (excepted_groups c.new_items)
-
--- what a change names is in ascending order, each once
-pub record NamedRise (c : ChangeParts) : Type 0 where
-  pub old_upmap : IsRising pg_key c.old_upmap
-  pub old_items : IsRising pg_key c.old_items
-  pub new_upmap : IsRising key_of c.new_upmap
-  pub new_items : IsRising key_of c.new_items
 
 -- the groups that a change names, and where some OSD gets another reweight those that have exceptions
 abbrev pub candidates_by : List Reweight → ClusterMap → ChangeParts → List Pg

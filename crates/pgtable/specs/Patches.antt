@@ -1,9 +1,9 @@
 -- Patches: what they make of a table.
-use Rattle.std.specs.Prelude.{◌≡◌, ◌≢◌, ℕ, ◌+◌, ◌<◌, ◌≤◌, Bool, true, false, not, ◌&&◌, List, [], ◌∷◌, length, map, Option, Some, None, is_some, slice_get, slice_set, IfSome, if◌then◌else◌}
+use Rattle.std.specs.Prelude.{◌≡◌, ◌≢◌, ℕ, ◌+◌, ◌<◌, ◌≤◌, Bool, true, false, List, [], length, map, Option, Some, None, slice_get, slice_set, IfSome}
 use Rattle.std.specs.List.{zip, filter, fold, count_by, range_with_len}
 use Rattle.osdmap.specs.Evals.{concerns, is_evaluated}
 use Rattle.osdmap.specs.Placement.{group_of, mapped_set}
-use Rattle.std.specs.Option.{option_map, option_map_or, option_or}
+use Rattle.std.specs.Option.{option_map, option_map_or}
 use Rattle.buckets.specs.Limits.{max_devices}
 use Rattle.mapparts.specs.Limits.{max_pools}
 use Rattle.grouptable.specs.Sets.{GroupSets, groups_after}
@@ -11,9 +11,7 @@ use Rattle.maptypes.specs.Sets.{Places}
 use Rattle.grouptable.specs.Tables.{IsPatchFor}
 use Rattle.grouptable.specs.declared.table.GroupPatch.{GroupPatch}
 use Rattle.maptypes.specs.declared.change.ChangeParts.{ChangeParts}
-use Rattle.maptypes.specs.declared.exception.Exception.{Exception}
-use Rattle.maptypes.specs.declared.pg.Pg.{Pg}
-use Rattle.maptypes.specs.Exceptions.{said_of, is_among}
+use Rattle.maptypes.specs.Named.{leaves_raw_sets}
 use Rattle.maptypes.specs.Pools.{PoolFacts}
 use Rattle.osdmap.specs.Maps.{ClusterMap, HoldsTogether}
 use Rattle.osdmap.specs.Changes.{change_fault, apply}
@@ -39,30 +37,12 @@ pub record LeadsFrom (m : ClusterMap) (c : ChangeParts) (after : ClusterMap) : T
   pub holds : HoldsTogether m
   pub holds_after : HoldsTogether after
 
--- whether a list has no entries
-abbrev pub is_empty : {X : Type 0} → List X → Bool
-is_empty [] = true
-is_empty (x ∷ xs) = false
-
--- whether a change leaves all pools as they are, and the forest and the rules
-unfoldable pub leaves_pools : ChangeParts → Bool
-leaves_pools c = is_empty c.old_pools && not (is_some c.new_crush) && is_empty c.new_pools && is_empty c.grow_pool
-
--- whether a change leaves all raw sets: the reweights stay as well as the pools, so that only a group whose exceptions
--- it names is placed otherwise
-unfoldable pub leaves_raw_sets : ChangeParts → Bool
-leaves_raw_sets c = leaves_pools c && is_empty c.weight
-
 -- the source of the sets after a change: the map after it, or the one before it where the change leaves all raw
 -- sets
 pub record IsSource (m : ClusterMap) (c : ChangeParts) (source : ClusterMap) (is_after : Bool) : Type 0 where
   pub after : is_after ≡ true → source ≡ changed_map m c
   pub before : is_after ≡ false → source ≡ m
   pub leaves : is_after ≡ false → leaves_raw_sets c ≡ true
-
--- what a change makes of what is said of a group: what comes in its place, nothing where it goes, else what was said
-abbrev pub said_after : {E : Type 0} → List Pg → List (Exception E) → Option (List E) → Pg → Option (List E)
-said_after gone new said g = option_or (said_of new g) (if is_among gone g then None else said)
 
 -- some OSDs go up or down
 abbrev pub with_ups : Bool → List Bool → List ℕ → List Bool

@@ -1,17 +1,18 @@
 //! The groups that a change can concern.
 
-ghost use Rattle.std.specs.Prelude.{◌≡◌, ◌<◌, ◌≤◌, ℕ, [], true, false, None, length, nat_le, nat_lt, filter, slice_index_or, IfOk, OnOk};
+ghost use Rattle.std.specs.Prelude.{◌≡◌, ◌<◌, ◌≤◌, ℕ, [], false, None, length, nat_le, nat_lt, filter, slice_index_or, IfOk};
 ghost use Rattle.std.specs.List.{list_any};
 ghost use Rattle.keylist.specs.Order.{IsRising};
-ghost use Rattle.maptypes.specs.Exceptions.{pg_key, key_of};
+ghost use Rattle.maptypes.specs.Exceptions.{pg_key};
+ghost use Rattle.maptypes.specs.Named.{NamedRise};
 ghost use Rattle.maptypes.specs.declared.pg.Pg.{Pg};
 ghost use Rattle.maptypes.specs.declared.change.ChangeParts.{ChangeParts};
 ghost use Rattle.osdmap.specs.Changes.{change_fault};
 ghost use Rattle.osdmap.specs.Maps.{ClusterMap};
-ghost use Rattle.pgtable.specs.Candidates.{excepted_groups, union_of, NamedRise, IsCandidates, named_groups, candidates, is_of_pool, numbers_in};
+ghost use Rattle.pgtable.specs.Candidates.{IsCandidates, candidates, is_of_pool, numbers_in};
 
-use keylist::{Keyed, put_all};
-use maptypes::{Blank, Change, Exception, Explicit, Items, Pg, Pool};
+use keylist::Keyed;
+use maptypes::{Change, Pg, Pool, join_groups_of};
 use osdmap::OsdMap;
 use refusal::Memory;
 use std::alloc::Global;
@@ -19,72 +20,12 @@ use std::alloc::Global;
 /// From so many groups on a pool's are sought by halving. Below it, that costs more than it spares.
 const MANY: usize = 16;
 
-/// The groups of some exceptions, in their order; or `Memory` (30).
-fn groups_of<E: Blank>(alloc: Global, exceptions: &[Exception<E>]) -> Result<Vec<Pg>, Memory>
-    requires { IsRising key_of exceptions.now }
-    ensures groups { IfOk result (λ groups. groups.items ≡ excepted_groups exceptions.now) }
-    ensures rising { IfOk result (λ groups. IsRising pg_key groups.items) }
-{
-    let mut groups = Vec::with_capacity(alloc, exceptions.len())?;
-    for exception in exceptions {
-        groups.push(exception.pg)?;
-    }
-    Ok(groups)
-}
-
-/// Puts some groups among others, each in ascending order; or `Memory` (30).
-fn join(groups: &mut Vec<Pg>, others: &[Pg]) -> Result<(), Memory>
-    requires some { IsRising pg_key groups.old.items }
-    requires others { IsRising pg_key others.now }
-    ensures groups { OnOk result (groups.new.items ≡ union_of groups.old.items others.now) }
-    ensures rising { OnOk result (IsRising pg_key groups.new.items) }
-{
-    if matches!(others, []) {
-        return Ok(());
-    }
-    groups.reserve(others.len())?;
-    put_all(groups, others);
-    Ok(())
-}
-
 /// What a change names that a map does not refuse is in ascending order, each once: for proofs alone.
 pub(crate) fn names_rise(_map: &OsdMap, change: &Change)
     requires { change_fault _map.now.map change.now ≡ None }
     ensures { NamedRise change.now }
 {
     let _ = change.parts();
-}
-
-/// Whether a change names no group.
-fn names_none(change: &Change) -> bool
-    ensures { result ≡ true → named_groups change.now ≡ [] }
-{
-    let parts = change.parts();
-    let old_upmap: &[Pg] = &parts.old_upmap;
-    let old_items: &[Pg] = &parts.old_items;
-    let new_upmap: &[Explicit] = &parts.new_upmap;
-    let new_items: &[Items] = &parts.new_items;
-    matches!(
-        (old_upmap, old_items, new_upmap, new_items),
-        ([], [], [], [])
-    )
-}
-
-/// The groups that a change names, in ascending order; or `Memory` (30).
-fn named_groups(alloc: Global, change: &Change) -> Result<Vec<Pg>, Memory>
-    requires { NamedRise change.now }
-    ensures named { IfOk result (λ groups. groups.items ≡ named_groups change.now) }
-    ensures rising { IfOk result (λ groups. IsRising pg_key groups.items) }
-{
-    if names_none(change) {
-        return Ok(Vec::new(alloc));
-    }
-    let parts = change.parts();
-    let mut groups = Vec::from_slice(alloc, &parts.old_upmap)?;
-    join(&mut groups, &parts.old_items)?;
-    join(&mut groups, &groups_of(alloc, &parts.new_upmap)?)?;
-    join(&mut groups, &groups_of(alloc, &parts.new_items)?)?;
-    Ok(groups)
 }
 
 /// The groups that a change names, and where some OSD gets another reweight all that have exceptions after it, in
@@ -96,10 +37,10 @@ fn with_excepted(alloc: Global, change: &Change, after: &OsdMap) -> Result<Vec<P
     ensures rising { IfOk result (λ groups. IsRising pg_key groups.items) }
 {
     after.holds_together();
-    let mut groups = named_groups(alloc, change)?;
+    let mut groups = change.named_groups(alloc)?;
     if !change.parts().weight.is_empty() {
-        join(&mut groups, &groups_of(alloc, after.explicits())?)?;
-        join(&mut groups, &groups_of(alloc, after.all_items())?)?;
+        join_groups_of(alloc, &mut groups, after.explicits())?;
+        join_groups_of(alloc, &mut groups, after.all_items())?;
     }
     Ok(groups)
 }

@@ -7,7 +7,7 @@ ghost use Rattle.std.specs.List.{list_any};
 ghost use Rattle.std.specs.List.Sorted.{IsNonDecreasingBy};
 ghost use Rattle.keylist.specs.Keys.{has_key};
 ghost use Rattle.maptypes.specs.Exceptions.{pg_key};
-ghost use Rattle.osdmap.specs.Evals.{is_named, names_reweighted, concerns};
+ghost use Rattle.osdmap.specs.Evals.{names_reweighted, concerns};
 ghost use Rattle.pgtable.specs.Candidates.{IsCandidates, number_at, concerned_number, numbers_in};
 ghost use Rattle.pgtable.specs.Patches.{concerned_numbers};
 
@@ -17,19 +17,6 @@ use maptypes::{Change, Entry, Pg, Pool, Reweight};
 use osdmap::OsdMap;
 use refusal::Memory;
 use std::alloc::Global;
-
-/// Whether exceptions of a group go or come with a change.
-#[tactic(auto, unfolding(osdmap::specs::Evals::is_named))]
-fn is_named(change: &Change, pg: Pg) -> bool
-    ensures { result ≡ is_named change.now pg }
-{
-    let parts = change.parts();
-    let key = pg.key();
-    has(&parts.old_upmap, key)
-        || has(&parts.old_items, key)
-        || has(&parts.new_upmap, key)
-        || has(&parts.new_items, key)
-}
 
 /// Whether an entry of an exception names an OSD that gets another reweight.
 fn is_reweighted<E: Entry>(entry: &E, weight: &[Reweight]) -> bool
@@ -68,7 +55,7 @@ fn names_reweighted<E: Entry>(change: &Change, said: Option<&[E]>) -> bool
 fn concerns(map: &OsdMap, change: &Change, pg: Pg) -> bool
     ensures { result ≡ concerns map.now.map change.now pg }
 {
-    is_named(change, pg)
+    change.names(pg)
         || names_reweighted(change, map.explicit(pg))
         || names_reweighted(change, map.items(pg))
 }

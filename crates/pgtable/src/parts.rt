@@ -1,12 +1,13 @@
-//! All groups of a large pool, placed side by side: each room has a part of them.
+//! All groups of a pool, a large one side by side: each room has a part of them.
 
 ghost use Rattle.std.specs.Prelude.{◌≡◌, Some};
 ghost use Rattle.osdmap.specs.Maps.{pool_at};
 
-use crate::mapped::sets_between;
-use crate::rooms::{Room, forget};
+use crate::mapped::{all_mapped_sets, sets_between};
+use crate::rooms::{LEAST_SHARED, Room, Rooms, forget};
 use grouptable::SetList;
-use osdmap::Placing;
+use maptypes::Pool;
+use osdmap::{OsdMap, Placing};
 use refusal::Memory;
 use std::alloc::Global;
 use std::thread;
@@ -100,5 +101,61 @@ impl Parts<'_> {
         let sets = self.join(alloc, rooms);
         forget(rooms);
         sets
+    }
+}
+
+impl Rooms {
+    ghost use Rattle.std.specs.Prelude.{◌≡◌, Some, IfOk, OnOk};
+    ghost use Rattle.osdmap.specs.Maps.{pool_at};
+    ghost use Rattle.pgtable.specs.Rooms.{RunMore};
+    ghost use Rattle.pgtable.specs.Tables.{pool_table};
+
+    /// The mapped sets of all groups of a pool of a map, all in one room; or `Memory` (30).
+    fn sets_in_one(&mut self, alloc: Global, map: &OsdMap, pool: &Pool) -> Result<SetList, Memory>
+        requires { pool_at map.now.map.pools pool.now.id ≡ Some pool.now }
+        ensures sets { IfOk result (λ sets. sets ≡ (pool_table map.now.map pool.now).groups) }
+        ensures runs { OnOk result (RunMore pool.now.pg_num self.old self.new) }
+    {
+        all_mapped_sets(alloc, map, pool, &mut self.rooms[0].work)
+    }
+
+    /// The mapped sets of all groups of a pool of a map, a part of them in each room; or `Memory` (30).
+    fn sets_in_parts<R: Threads + Sync>(
+        &mut self,
+        rt: &R,
+        alloc: Global,
+        map: &OsdMap,
+        pool: &Pool,
+    ) -> Result<SetList, Memory>
+        requires { pool_at map.now.map.pools pool.now.id ≡ Some pool.now }
+        ensures sets { IfOk result (λ sets. sets ≡ (pool_table map.now.map pool.now).groups) }
+        ensures runs { OnOk result (RunMore pool.now.pg_num self.old self.new) }
+    {
+        let placing = map.placing(pool);
+        let size = (pool.pg_num() as usize).div_ceil(self.rooms.len());
+        let parts = Parts {
+            placing: &placing,
+            size,
+        };
+        parts.sets(rt, alloc, &mut self.rooms)
+    }
+
+    /// The mapped sets of all groups of a pool of a map, by a run of the pool's rule for each; or `Memory` (30).
+    pub(crate) fn all_sets<R: Threads + Sync>(
+        &mut self,
+        rt: &R,
+        alloc: Global,
+        map: &OsdMap,
+        pool: &Pool,
+    ) -> Result<SetList, Memory>
+        requires { pool_at map.now.map.pools pool.now.id ≡ Some pool.now }
+        ensures sets { IfOk result (λ sets. sets ≡ (pool_table map.now.map pool.now).groups) }
+        ensures runs { OnOk result (RunMore pool.now.pg_num self.old self.new) }
+    {
+        if self.rooms.len() < 2 || pool.pg_num() < LEAST_SHARED {
+            self.sets_in_one(alloc, map, pool)
+        } else {
+            self.sets_in_parts(rt, alloc, map, pool)
+        }
     }
 }

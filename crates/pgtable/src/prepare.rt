@@ -2,7 +2,7 @@
 
 ghost use Rattle.std.specs.Prelude.{◌≡◌, true, length};
 ghost use Rattle.osdmap.specs.Marks.{are_below};
-ghost use Rattle.pgtable.specs.Patches.{is_empty, leaves_pools, leaves_raw_sets, with_ups};
+ghost use Rattle.pgtable.specs.Patches.{with_ups};
 
 use crate::patch::Patch;
 use crate::rooms::Rooms;
@@ -13,33 +13,6 @@ use osdmap::OsdMap;
 use refusal::Memory;
 use std::alloc::Global;
 use std::thread::Threads;
-
-/// Whether a list has no entries.
-fn is_empty<T>(entries: &[T]) -> bool
-    ensures { result ≡ is_empty entries.now }
-{
-    matches!(entries, [])
-}
-
-/// Whether a change leaves all pools as they are, and the forest and the rules.
-#[tactic(auto, unfolding(crate::specs::Patches::leaves_pools))]
-fn leaves_pools(change: &Change) -> bool
-    ensures { result ≡ leaves_pools change.now }
-{
-    let parts = change.parts();
-    is_empty(&parts.old_pools)
-        && parts.new_crush.is_none()
-        && is_empty(&parts.new_pools)
-        && is_empty(&parts.grow_pool)
-}
-
-/// Whether it leaves all raw sets, so that only a group whose exceptions it names is placed otherwise.
-#[tactic(auto, unfolding(crate::specs::Patches::leaves_raw_sets))]
-pub(crate) fn leaves_raw_sets(change: &Change) -> bool
-    ensures { result ≡ leaves_raw_sets change.now }
-{
-    leaves_pools(change) && is_empty(&change.parts().weight)
-}
 
 /// Some OSDs go up or down.
 fn set_ups(ups: &mut [bool], osds: &[u32], up: bool)
@@ -54,7 +27,7 @@ fn set_ups(ups: &mut [bool], osds: &[u32], up: bool)
 impl PgTable {
     ghost use Rattle.std.specs.Prelude.{◌≡◌, ◌<◌, true, length, map, None, ◌+◌, ◌^◌, IfOk};
     ghost use Rattle.osdmap.specs.Marks.{are_below};
-    ghost use Rattle.pgtable.specs.Patches.{leaves_raw_sets, changed_map, LeadsTo, ups_after};
+    ghost use Rattle.pgtable.specs.Patches.{changed_map, LeadsTo, ups_after};
     ghost use Rattle.osdmap.specs.Changes.{change_fault};
     ghost use Rattle.osdmap.specs.Evals.{evals_of};
     ghost use Rattle.pgtable.specs.After.{IsPatchBy};
@@ -116,7 +89,7 @@ impl PgTable {
         ensures runs { IfOk result (λ p. RunMore p.evals rooms.old rooms.new) }
     {
         let alloc = rt.alloc();
-        if leaves_raw_sets(change) {
+        if change.leaves_raw_sets() {
             let update = Update::new(alloc, map, change, map, false)?;
             let patch = self.make_patch(rt, &update, rooms)?;
             return Ok(patch);

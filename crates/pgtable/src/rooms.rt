@@ -5,8 +5,6 @@ ghost use Rattle.std.specs.Prelude.{◌≡◌, ◌<◌, ◌-◌, ◌^◌, min, m
 ghost use Rattle.maptypes.specs.Pools.{total_groups};
 ghost use Rattle.pgtable.specs.Rooms.{runs_of};
 
-use crate::mapped::all_mapped_sets;
-use crate::parts::Parts;
 use crate::pool_table::PoolTable;
 use crush::{Forest, Work};
 use grouptable::{OsdSet, SetList};
@@ -130,10 +128,8 @@ fn count_rooms<R: Threads>(rt: &R, map: &OsdMap) -> usize
 }
 
 impl Rooms {
-    ghost use Rattle.std.specs.Prelude.{◌≡◌, ◌<◌, Some, IfOk, OnOk, length};
-    ghost use Rattle.osdmap.specs.Maps.{pool_at};
-    ghost use Rattle.pgtable.specs.Rooms.{runs_of, RunMore};
-    ghost use Rattle.pgtable.specs.Tables.{pool_table};
+    ghost use Rattle.std.specs.Prelude.{◌≡◌, IfOk};
+    ghost use Rattle.pgtable.specs.Rooms.{runs_of};
 
     /// Rooms for the groups of a map, whose works have counted no run: one for each processor where the groups are
     /// many, else one.
@@ -146,54 +142,5 @@ impl Rooms {
     {
         let rooms = new_rooms(alloc, map.forest(), count_rooms(rt, map))?;
         Ok(Rooms { rooms })
-    }
-
-    /// The mapped sets of all groups of a pool of a map, all in one room; or `Memory` (30).
-    fn sets_in_one(&mut self, alloc: Global, map: &OsdMap, pool: &Pool) -> Result<SetList, Memory>
-        requires { pool_at map.now.map.pools pool.now.id ≡ Some pool.now }
-        ensures sets { IfOk result (λ sets. sets ≡ (pool_table map.now.map pool.now).groups) }
-        ensures runs { OnOk result (RunMore pool.now.pg_num self.old self.new) }
-    {
-        all_mapped_sets(alloc, map, pool, &mut self.rooms[0].work)
-    }
-
-    /// The mapped sets of all groups of a pool of a map, a part of them in each room; or `Memory` (30).
-    fn sets_in_parts<R: Threads + Sync>(
-        &mut self,
-        rt: &R,
-        alloc: Global,
-        map: &OsdMap,
-        pool: &Pool,
-    ) -> Result<SetList, Memory>
-        requires { pool_at map.now.map.pools pool.now.id ≡ Some pool.now }
-        ensures sets { IfOk result (λ sets. sets ≡ (pool_table map.now.map pool.now).groups) }
-        ensures runs { OnOk result (RunMore pool.now.pg_num self.old self.new) }
-    {
-        let placing = map.placing(pool);
-        let size = (pool.pg_num() as usize).div_ceil(self.rooms.len());
-        let parts = Parts {
-            placing: &placing,
-            size,
-        };
-        parts.sets(rt, alloc, &mut self.rooms)
-    }
-
-    /// The mapped sets of all groups of a pool of a map, by a run of the pool's rule for each; or `Memory` (30).
-    pub(crate) fn all_sets<R: Threads + Sync>(
-        &mut self,
-        rt: &R,
-        alloc: Global,
-        map: &OsdMap,
-        pool: &Pool,
-    ) -> Result<SetList, Memory>
-        requires { pool_at map.now.map.pools pool.now.id ≡ Some pool.now }
-        ensures sets { IfOk result (λ sets. sets ≡ (pool_table map.now.map pool.now).groups) }
-        ensures runs { OnOk result (RunMore pool.now.pg_num self.old self.new) }
-    {
-        if self.rooms.len() < 2 || pool.pg_num() < LEAST_SHARED {
-            self.sets_in_one(alloc, map, pool)
-        } else {
-            self.sets_in_parts(rt, alloc, map, pool)
-        }
     }
 }

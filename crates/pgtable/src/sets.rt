@@ -1,13 +1,5 @@
 //! The mapped sets of groups after a change, by their source.
 
-ghost use Rattle.std.specs.Prelude.{◌≡◌, ◌≤◌, length, IfSome};
-ghost use Rattle.std.specs.Option.{option_copied};
-ghost use Rattle.std.specs.List.Sorted.{IsNonDecreasingBy};
-ghost use Rattle.keylist.specs.Order.{IsRising};
-ghost use Rattle.crush.specs.Limits.{max_size};
-ghost use Rattle.maptypes.specs.Exceptions.{pg_key, key_of};
-ghost use Rattle.pgtable.specs.Patches.{said_after};
-
 use crate::candidates::{may_be_in, names_rise};
 use crate::concerned::concerned_numbers;
 use crate::mapped::{mapped_set, store_set};
@@ -17,31 +9,10 @@ use crate::shares::Shares;
 use crate::update::Update;
 use crush::Work;
 use grouptable::{GroupTable, OsdSet};
-use keylist::{Keyed, entry_of, has};
-use maptypes::{Blank, Exception, Pg, Pool};
+use maptypes::{Pg, Pool};
 use refusal::{Memory, Refusal};
 use std::alloc::Global;
 use std::thread::Threads;
-
-/// What a change makes of what is said of a group: what comes in its place, nothing where it goes, else what was said.
-fn said_after<'a, E: Blank>(
-    gone: &[Pg],
-    new: &'a [Exception<E>],
-    said: Option<&'a [E]>,
-    pg: Pg,
-) -> Option<&'a [E]>
-    requires gone { IsNonDecreasingBy pg_key gone.now }
-    requires new { IsRising key_of new.now }
-    requires few { IfSome said (λ entries. length entries.now ≤ max_size) }
-    ensures value { option_copied result ≡ said_after gone.now new.now (option_copied said.entry) pg }
-    ensures few { IfSome result (λ entries. length entries.now ≤ max_size) }
-{
-    match entry_of(new, pg.key()) {
-        Some(exception) => Some(exception.entries.as_slice()),
-        None if has(gone, pg.key()) => None,
-        None => said,
-    }
-}
 
 impl Update<'_> {
     ghost use Rattle.std.specs.Prelude.{◌≡◌, ◌<◌, true, false, [], length, Some, IfOk, OnOk, All};
@@ -92,9 +63,8 @@ impl Update<'_> {
         let map = self.before;
         let change = self.change;
         names_rise(map, change);
-        let parts = change.parts();
-        let explicit = said_after(&parts.old_upmap, &parts.new_upmap, map.explicit(pg), pg);
-        let items = said_after(&parts.old_items, &parts.new_items, map.items(pg), pg);
+        let explicit = change.explicit_after(map.explicit(pg), pg);
+        let items = change.items_after(map.items(pg), pg);
         match map.mapped_with(pg, explicit, items, work) {
             Ok(set) => Ok(store_set(&set)),
             Err(Refusal::Memory) => Err(Memory),

@@ -7,7 +7,7 @@ ghost use Rattle.pgtable.specs.Tables.{ups_of};
 use crate::pool_table::PoolTable;
 use crate::rooms::Rooms;
 use crate::shown::show_set;
-use keylist::entry_of;
+use keylist::{Keyed, entry_of};
 use maptypes::{Pg, UpSet};
 use osdmap::OsdMap;
 use refusal::Memory;
@@ -100,11 +100,16 @@ impl PgTable {
         &self.pools
     }
 
-    /// The pool of an id; by halving.
+    /// The pool of an id: it stands where it would without gaps between the ids, else it is found by halving.
     fn pool(&self, id: u32) -> Option<&PoolTable>
         ensures { option_copied result ≡ pool_in self.now id }
     {
-        entry_of(&self.pools, u64::from(id))
+        let key = u64::from(id);
+        let first = self.pools.first()?;
+        match self.pools.get(id.saturating_sub(first.pool.id()) as usize) {
+            Some(table) if table.key() == key => Some(table),
+            _ => entry_of(&self.pools, key),
+        }
     }
 
     /// Whether an OSD is up.

@@ -36,7 +36,8 @@ fn take_last(tables: &mut Vec<PoolTable>, pool: &Pool) -> Option<NewTable>
 impl PgTable {
     ghost use Rattle.std.specs.Prelude.{◌≡◌, true, slice_get, false, is_some, IfOk, OnOk};
     ghost use Rattle.pgtable.specs.After.{map_after, HasPool, is_touched_by, pool_evals, change_evals};
-    ghost use Rattle.pgtable.specs.Patches.{is_empty, MakesPool, LeadTables};
+    ghost use Rattle.maptypes.specs.Named.{is_empty};
+    ghost use Rattle.pgtable.specs.Patches.{MakesPool, LeadTables};
     ghost use Rattle.pgtable.specs.Rooms.{RunMore};
     ghost use Rattle.pgtable.specs.Tables.{IsTableOf, pool_in};
 

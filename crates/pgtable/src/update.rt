@@ -8,7 +8,6 @@ ghost use Rattle.pgtable.specs.Candidates.{IsCandidates};
 ghost use Rattle.pgtable.specs.Patches.{LeadsFrom, IsSource, changed_map};
 
 use crate::candidates::candidates;
-use keylist::has;
 use maptypes::{Change, Pg, Pool};
 use osdmap::OsdMap;
 use refusal::Memory;
@@ -44,18 +43,13 @@ fn reaches(map: &OsdMap, change: &Change, pool: &Pool) -> bool
     }
 }
 
-/// Whether all groups of a pool of the map after a change may be placed otherwise: the forest and the rules were
-/// replaced, it came or grew with the change, or its rule reaches an OSD that got another reweight.
+/// Whether all groups of a pool of the map after a change may be placed otherwise: the change makes the pool anew, or its
+/// rule reaches an OSD that got another reweight.
 #[tactic(auto, unfolding(osdmap::specs::Evals::is_touched))]
 fn touches(after: &OsdMap, change: &Change, pool: &Pool) -> bool
     ensures { result ≡ is_touched after.now.map change.now pool.now }
 {
-    let parts = change.parts();
-    let id = u64::from(pool.id());
-    parts.new_crush.is_some()
-        || has(&parts.new_pools, id)
-        || has(&parts.grow_pool, id)
-        || reaches(after, change, pool)
+    change.renews(pool.id()) || reaches(after, change, pool)
 }
 
 impl<'a> Update<'a> {
@@ -94,7 +88,8 @@ impl Update<'_> {
     ghost use Rattle.std.specs.Prelude.{◌≡◌, true, IfOk};
     ghost use Rattle.pgtable.specs.After.{map_after, is_touched_by, touched_pools};
     ghost use Rattle.pgtable.specs.Candidates.{IsCandidates};
-    ghost use Rattle.pgtable.specs.Patches.{LeadsFrom, IsSource, is_empty};
+    ghost use Rattle.maptypes.specs.Named.{is_empty};
+    ghost use Rattle.pgtable.specs.Patches.{LeadsFrom, IsSource};
 
     /// What holds of the change and of the source: for proofs alone.
     pub fn holds(&self)

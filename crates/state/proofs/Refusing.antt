@@ -5,7 +5,8 @@ use Rattle.refusal.specs.declared.refused.Refusal.TheVariants.{StaleEpoch, Unkno
 use Rattle.refusal.specs.Refusals.{number_of}
 use Rattle.maptypes.specs.declared.change.ChangeParts.{ChangeParts}
 use Rattle.osdmap.specs.Maps.{ClusterMap}
-use Rattle.osdmap.specs.Changes.{change_fault, names_osds, weighs_rightly, names_pools, brings_new, brings_forest, brings_rightly, names_groups, excepts_soundly, names_once}
+use Rattle.osdmap.specs.Changes.{change_fault, names_osds, weighs_rightly, names_pools, brings_new, brings_forest, brings_rightly, names_groups, excepts_soundly}
+use Rattle.maptypes.specs.Named.{names_once}
 use Rattle.state.specs.States.{commit_fault, unless}
 
 -- where there is a refusal, its number is below 30

@@ -4,9 +4,10 @@ use crate::map::OsdMap;
 use maptypes::{Change, Entry, Exception, NamesGroup, Pg};
 
 impl OsdMap {
-    ghost use Rattle.std.specs.Prelude.{◌≡◌};
+    ghost use Rattle.std.specs.Prelude.{◌≡◌, ◌&&◌};
     ghost use Rattle.std.specs.List.{list_all};
-    ghost use Rattle.maptypes.specs.Exceptions.{has_group, is_sound};
+    ghost use Rattle.maptypes.specs.Exceptions.{has_group, is_sound, all_named, target, sides};
+    ghost use Rattle.osdmap.specs.Maps.{osd_exists};
     ghost use Rattle.osdmap.specs.Changes.{pools_after, names_groups, excepts_soundly};
 
     /// Whether a group is there after a change.
@@ -29,7 +30,7 @@ impl OsdMap {
     }
 
     /// Whether each group that a change names is there after it.
-    #[tactic(auto, unfolding(crate::specs::Changes::names_groups, crate::specs::Changes::all_named_groups))]
+    #[tactic(auto, unfolding(crate::specs::Changes::names_groups, maptypes::specs::Named::all_named_groups))]
     pub(crate) fn names_groups(&self, change: &Change) -> bool
         ensures { result ≡ names_groups self.now.map change.now }
     {
@@ -38,6 +39,15 @@ impl OsdMap {
             && self.are_groups(change, &parts.old_items)
             && self.are_groups(change, &parts.new_upmap)
             && self.are_groups(change, &parts.new_items)
+    }
+
+    /// Whether each OSD exists that an exception which comes names.
+    pub(crate) fn knows_excepted(&self, change: &Change) -> bool
+        ensures { result ≡ (list_all (all_named target (osd_exists self.now.map)) change.now.new_upmap
+            && list_all (all_named sides (osd_exists self.now.map)) change.now.new_items) }
+    {
+        let parts = change.parts();
+        self.all_named_exist(&parts.new_upmap) && self.all_named_exist(&parts.new_items)
     }
 
     /// Whether an exception that comes is sound for its pool after the change.

@@ -78,7 +78,6 @@ impl OsdMap {
         self.all_exist(&parts.down)
             && self.all_exist(&parts.up)
             && self.all_reweighted_exist(&parts.weight)
-            && self.all_named_exist(&parts.new_upmap)
-            && self.all_named_exist(&parts.new_items)
+            && self.knows_excepted(change)
     }
 }

@@ -96,7 +96,7 @@ impl OsdMap {
 
     /// Whether each pool that a change takes away is there, and once the new ones came each that grows and the pool of
     /// each group that it names.
-    #[tactic(auto, unfolding(crate::specs::Changes::names_pools, crate::specs::Changes::all_named_groups))]
+    #[tactic(auto, unfolding(crate::specs::Changes::names_pools, maptypes::specs::Named::all_named_groups))]
     pub(crate) fn names_pools(&self, change: &Change) -> bool
         ensures { result ≡ names_pools self.now.map change.now }
     {

@@ -7,8 +7,8 @@ use Rattle.balancer.proofs.plans.plan.Goals as goal
 pub new-requires : goal.new-requires
 new-requires c = found_itself c.args.map.now.map c.in_ok-pool.pool c.args.request.pool c.in_ok-pool.ensures.1
 
-pub change_of-requires : goal.change_of-requires
-change_of-requires c =
+pub of_items-requires : goal.of_items-requires
+of_items-requires c =
     let b = c.in_ok-board.board in
     made_rises c.args.map.now.map c.in_ok-pool.pool (asked_aim c.args.request) c.args.request.pool c.args.request.limit c.in_ok-pool.ensures.1 c.holds_together.ensures b.frame.map.now.map b.frame.pool (aim_of b.frame.carried.now b.frame.apart) b.moves.items
     (c.in_ok-board.ensures.frame.map ∙ c.in_ok-frame.ensures.map) (c.in_ok-board.ensures.frame.pool ∙ c.in_ok-frame.ensures.pool) (c.in_ok-board.ensures.frame.aim ∙ c.in_ok-frame.ensures.aim) b.reached c.in_ok-items.items.items c.in_ok-items.ensures

@@ -7,14 +7,14 @@ use Rattle.maptypes.specs.Ordered.{IsChange}
 use Rattle.osdmap.specs.Changes.{apply}
 use Rattle.osdmap.proofs.Accepted.{accepted}
 use Rattle.osdmap.proofs.AfterLemmas.{length-with_up}
-use Rattle.osdmap.proofs.Coming.{comes}
+use Rattle.maptypes.proofs.NamedParts.{comes}
 use Rattle.osdmap.proofs.Named.{all_below}
 use Rattle.osdmap.proofs.Kept.{HoldsTogether-after, assembled, buckets-ready, rules-ready}
 use Rattle.osdmap.proofs.map.OsdMap.change_to.Goals as goal
 
 pub change_pools-requires-clause-new : goal.change_pools-requires-clause-new
 change_pools-requires-clause-new c =
-    rw (c.deref-2.ensures, c.parts-parts.ensures.value) (comes c.args.self.now.map c.args.change.now (accepted _ _ c.requires.lawful) c.parts-parts.ensures.in_order).pools
+    rw (c.deref-2.ensures, c.parts-parts.ensures.value) (comes c.args.change.now (accepted c.args.self.now.map c.args.change.now c.requires.lawful).once c.parts-parts.ensures.in_order).pools
 
 pub set_up-requires : goal.set_up-requires
 set_up-requires c =
@@ -36,7 +36,7 @@ set_weights-requires c =
 
 pub change_exceptions-requires : goal.change_exceptions-requires
 change_exceptions-requires c =
-    let new = (comes c.args.self.now.map c.args.change.now (accepted _ _ c.requires.lawful) c.parts-parts.ensures.in_order).upmap in
+    let new = (comes c.args.change.now (accepted c.args.self.now.map c.args.change.now c.requires.lawful).once c.parts-parts.ensures.in_order).upmap in
     let order = c.parts-parts.ensures.in_order in
     let room = rw (← c.self.view_is) at c.requires.room in (
       search rules,
@@ -54,7 +54,7 @@ change_exceptions-requires c =
 
 pub change_exceptions-requires-2 : goal.change_exceptions-requires-2
 change_exceptions-requires-2 c =
-    let new = (comes c.args.self.now.map c.args.change.now (accepted _ _ c.requires.lawful) c.parts-parts.ensures.in_order).items in
+    let new = (comes c.args.change.now (accepted c.args.self.now.map c.args.change.now c.requires.lawful).once c.parts-parts.ensures.in_order).items in
     let order = c.parts-parts.ensures.in_order in
     let room = rw (← c.self.view_is) at c.requires.room in (
       search rules,

@@ -1,6 +1,6 @@
 use Rattle.std.proofs.Common.{◌≡◌, ◌∙◌, None, ap, length, replicate}
+use Rattle.maptypes.proofs.NamedParts.{leaving}
 use Rattle.pgtable.specs.Patches.{patches_of}
-use Rattle.pgtable.proofs.ChangedSets.{leaving}
 use Rattle.pgtable.proofs.PatchedInPlace.{idle_leads, idle_evals, lead_in_place}
 use Rattle.pgtable.proofs.table.PgTable.leave_all.Goals as goal
 

@@ -1,11 +1,12 @@
 use Rattle.std.proofs.Common.{◌≡◌, ◌∙◌, ◌+◌, ◌++◌, ◌∷◌, [], ◌<◌, ◌≤◌, refl, ap, length, arith}
+use Rattle.maptypes.proofs.NamedParts.{leaving}
 use Rattle.std.proofs.lemmas.List.Sums.{sum_by_more, sum_by_more_le}
 use Rattle.std.proofs.lemmas.Option.{slice_get_read}
 use Rattle.pgtable.specs.declared.pool_table.PoolTable.{PoolTable}
 use Rattle.pgtable.specs.Patches.{evals_in, patches_of}
 use Rattle.pgtable.specs.After.{map_after}
 use Rattle.pgtable.proofs.PatchedInPlace.{Sofar, table_at, lead_more, lead_in_place, evals_in_place, few_in_place, skipped_first, skipped_to}
-use Rattle.pgtable.proofs.ChangedSets.{leaving, none_touched, pools_stay}
+use Rattle.pgtable.proofs.ChangedSets.{none_touched, pools_stay}
 use Rattle.pgtable.proofs.table.PgTable.patch_in_place.Goals as goal
 
 pub loop-at-init : goal.loop-at-init

@@ -1,4 +1,5 @@
-use Rattle.pgtable.proofs.ChangedSets.{leaving, pools_stay}
+use Rattle.maptypes.proofs.NamedParts.{leaving}
+use Rattle.pgtable.proofs.ChangedSets.{pools_stay}
 use Rattle.pgtable.proofs.update.Update.had_pool.Goals as goal
 
 pub returns : goal.returns

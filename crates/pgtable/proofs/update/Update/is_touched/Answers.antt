@@ -1,6 +1,7 @@
 use Rattle.std.proofs.Common.{sym, ◌∙◌}
+use Rattle.maptypes.proofs.NamedParts.{leaving}
 use Rattle.pgtable.specs.After.{map_after}
-use Rattle.pgtable.proofs.ChangedSets.{leaving, none_touched}
+use Rattle.pgtable.proofs.ChangedSets.{none_touched}
 use Rattle.pgtable.proofs.update.Update.is_touched.Goals as goal
 
 pub returns-else-self-clause-value : goal.returns-else-self-clause-value

@@ -1,4 +1,4 @@
--- A change whose one part rises is made as it is stated.
+-- A change of pairs alone, which rise, is made as it is stated.
 use Rattle.std.proofs.Common.{◌≡◌, ℕ, List, [], arith}
 use Rattle.keylist.specs.Order.{IsRising, SortsBy}
 use Rattle.maptypes.specs.declared.change.ChangeParts.{ChangeParts}
@@ -6,8 +6,9 @@ use Rattle.maptypes.specs.declared.exception.Exception.{Exception}
 use Rattle.maptypes.specs.declared.exception.Pair.{Pair}
 use Rattle.maptypes.specs.Exceptions.{pg_key, key_of}
 use Rattle.maptypes.specs.Ordered.{IsOrdered}
-use Rattle.balancer.specs.Plans.{change_of}
-use Rattle.balancer.proofs.RisingListsEqual.{sorted_same}
+use Rattle.mapparts.specs.declared.profile.Profile.{Profile}
+use Rattle.maptypes.specs.Named.{items_alone}
+use Rattle.maptypes.proofs.RisingListsEqual.{sorted_same}
 
 -- the empty list rises
 none_rises : {X : Type 0} (key : X → ℕ) → IsRising key []
@@ -18,8 +19,8 @@ sorts_none : {X : Type 0} (key : X → ℕ) (ys : List X) → SortsBy key [] ys 
 sorts_none key ys sorts = sorted_same key [] ys (none_rises key) sorts
 
 -- a change of pairs that rise is its own order
-pub ordered_same : (items : List (Exception Pair)) (c : ChangeParts) → IsRising key_of items → IsOrdered (change_of items) c → c ≡ change_of items
-ordered_same items c rises ordered = λ i. record {
+pub ordered_same : (profile : Profile) (items : List (Exception Pair)) (c : ChangeParts) → IsRising key_of items → IsOrdered (items_alone profile items) c → c ≡ items_alone profile items
+ordered_same profile items c rises ordered = λ i. record {
   profile = ordered.profile i;
   old_pools = sorts_none (λ id. id) c.old_pools ordered.old_pools i;
   new_crush = ordered.new_crush i;
