@@ -111,8 +111,8 @@ impl Change {
     ghost use Rattle.maptypes.specs.GroupText.{IsReadBack};
     ghost use Rattle.maptypes.specs.Named.{names_once, is_named, EachNamed, named_groups, NamedRise, explicit_after, items_after, renews, leaves_raw_sets};
 
-    /// Whether no key stands twice in a part, or in both parts of a couple: old and new pools, new pools and growths, down
-    /// and up, old and new explicit sets, old and new pairs.
+    /// Whether no key stands twice in a part, or in both parts of a couple: old and new pools, new pools and growths,
+    /// down and up, old and new explicit sets, old and new pairs.
     #[tactic(auto, unfolding(crate::specs::Named::names_once))]
     pub fn names_once(&self) -> bool
         ensures { result ≡ names_once self.now }

@@ -43,8 +43,8 @@ fn reaches(map: &OsdMap, change: &Change, pool: &Pool) -> bool
     }
 }
 
-/// Whether all groups of a pool of the map after a change may be placed otherwise: the change makes the pool anew, or its
-/// rule reaches an OSD that got another reweight.
+/// Whether all groups of a pool of the map after a change may be placed otherwise: the change makes the pool anew, or
+/// its rule reaches an OSD that got another reweight.
 #[tactic(auto, unfolding(osdmap::specs::Evals::is_touched))]
 fn touches(after: &OsdMap, change: &Change, pool: &Pool) -> bool
     ensures { result ≡ is_touched after.now.map change.now pool.now }
