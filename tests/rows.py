@@ -1,14 +1,15 @@
 """The language of the tables beside this file: each row of one becomes runs of the program.
 
 A table is a JSON file of rows. A row has a name, a map (one device where it has none), a script (`epoch` where it has
-none), and the answers, or by which name the map is refused. A map is a name of maps.json; or of such a map with values
-put at paths (`values`) and texts replaced (`texts`); or an object (`is`); or a bare text (`raw`). A line of a script is
-a text, or a change as an object. Where a row stands for many runs, or for many lines, a key says so: `each_values`,
-`each_text`, `each_kind` (at each of `paths`), `each_without`, `beginnings_of_map`; `lines` (each with its answer),
-`each_line` (one answer to all), `sets` (groups and what they are placed on), `beginnings_of_change`. A row with
-`sessions` has a script and the answers of each, and runs them at once. A row with `stock` is run under `--stock`. A row
-with `arguments` says all itself: files, standard output, standard error, status. Entries repeated in a list are written
-as `filled` below reads them, and texts as `text_of` does.
+none), and the answers, or by which name the map is refused. Whole maps stand in maps.json alone, each an object, or a
+text where its order or its spaces matter. The map of a row is a name of it; or such a map (`of`) with values put at
+paths (`values`) and texts replaced (`texts`); or a bare text that is no map (`raw`). A line of a script is a text, or a
+change as an object; an answer is a text, or the dump of a map. Where a row stands for many runs, or for many lines, a
+key says so: `each_values`, `each_text`, `each_kind` (at each of `paths`), `each_without`, `beginnings_of_map`; `lines`
+(each with its answer), `each_line` (one answer to all), `sets` (groups and what they are placed on),
+`beginnings_of_change`. A row with `sessions` has a script and the answers of each, and runs them at once. A row with
+`stock` is run under `--stock`. A row with `arguments` says all itself: files, standard output, standard error, status.
+Entries repeated in a list are written as `filled` below reads them, and texts as `text_of` does.
 """
 
 from __future__ import annotations
@@ -66,7 +67,7 @@ def filled(value: Any) -> Any:
     return entries
 
 
-MAPS: dict[str, Map] = filled(json.loads((HERE / "maps.json").read_text()))
+MAPS: dict[str, Any] = filled(json.loads((HERE / "maps.json").read_text()))
 
 
 def text_of(parts: str | Iterable[tuple[str, int]]) -> str:
@@ -109,13 +110,11 @@ def replaced(text: str, old: str, new: str) -> str:
 
 
 def map_text(about: str | Row) -> str:
-    """The text of a map: by its name, as an object, as a bare text, or with values or texts replaced."""
+    """The text of a map: by its name, as a bare text, or with values or texts replaced."""
     if isinstance(about, str):
-        return written(MAPS[about])
+        return written(MAPS[about]) if isinstance(MAPS[about], dict) else text_of(MAPS[about])
     if "raw" in about:
         return text_of(about["raw"])
-    if "is" in about:
-        return written(filled(about["is"]))
     text = written(with_values(MAPS[about["of"]], about.get("values", {})))
     for old, new in about.get("texts", []):
         text = replaced(text, old, new)
@@ -209,7 +208,7 @@ def of_kinds(row: Row, about: Any) -> Iterator[Run]:
 def of_missing(row: Row, about: Any) -> Iterator[Run]:
     """A run for each key that a map is without."""
     for path in row["each_without"]:
-        yield one_run(row, f"{row['name']}: {path}", {"is": without(MAPS[about], path)})
+        yield one_run(row, f"{row['name']}: {path}", {"raw": written(without(MAPS[about], path))})
 
 
 def of_lines(row: Row, _: Any) -> Iterator[Run]:
