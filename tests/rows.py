@@ -9,7 +9,7 @@ key says so: `each_values`, `each_text`, `each_kind` (at each of `paths`), `each
 (each with its answer), `each_line` (one answer to all), `sets` (groups and what they are placed on),
 `beginnings_of_change`. A row with `sessions` has a script and the answers of each, and runs them at once. A row with
 `stock` is run under `--stock`. A row with `arguments` says all itself: files, standard output, standard error, status.
-Entries repeated in a list are written as `filled` below reads them, and texts as `text_of` does.
+OSDs, pools and entries repeated in a list are written as `filled` below reads them, and texts as `text_of` does.
 """
 
 from __future__ import annotations
@@ -22,6 +22,7 @@ from collections.abc import Callable, Iterable, Iterator
 from typing import Any
 
 from tests.runs import Run
+from tests.whole_maps import osd_of, pool_of
 
 HERE = pathlib.Path(__file__).resolve().parent
 Row = dict[str, Any]
@@ -49,11 +50,22 @@ def numbered(value: Any, number: int) -> Any:
     return value
 
 
+def whole(said: dict[str, Any]) -> dict[str, Any]:
+    """An OSD or a pool, by its number and by what it has other than most have; else what is said."""
+    if "osd" in said:
+        return {**osd_of(said.pop("osd")), **said}
+    if "pool" in said:
+        return {**pool_of(said.pop("pool"), said.get("pg_num", 1)), **said}
+    return said
+
+
 def filled(value: Any) -> Any:
-    """A value in which `{"every": entry, "times": n}` in a list stands for n entries, and `{"every": entry, "from": a,
-    "to": b}` for one for each number from a to b."""
+    """A value in which `{"osd": n}` stands for an OSD that is up and in, and `{"pool": n}` for a replicated pool of one
+    copy and one group, with what else is said there in place of that; a pool's groups are placed by as many. In a list
+    `{"every": entry, "times": n}` stands for n entries, and `{"every": entry, "from": a, "to": b}` for one for each
+    number from a to b."""
     if isinstance(value, dict):
-        return {key: filled(entry) for key, entry in value.items()}
+        return whole({key: filled(entry) for key, entry in value.items()})
     if not isinstance(value, list):
         return value
     entries: list[Any] = []
@@ -61,9 +73,9 @@ def filled(value: Any) -> Any:
         if not (isinstance(entry, dict) and "every" in entry):
             entries.append(filled(entry))
         elif "times" in entry:
-            entries += [entry["every"]] * entry["times"]
+            entries += [filled(entry["every"])] * entry["times"]
         else:
-            entries += [numbered(entry["every"], n) for n in range(entry["from"], entry["to"] + 1)]
+            entries += [numbered(filled(entry["every"]), n) for n in range(entry["from"], entry["to"] + 1)]
     return entries
 
 
