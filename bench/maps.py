@@ -1,41 +1,35 @@
-"""The maps that the benches run over, and what they read of maps. The keys of a map, an OSD and a pool stand here once,
-for all benches."""
+"""The maps that the benches run over, and what they read of maps. What a map, an OSD and a pool are made of stands in
+tests/whole_maps.py, for tests and benches."""
 
 from __future__ import annotations
 
+import os
+import sys
 from typing import Any
+
+sys.path.append(os.path.dirname(os.path.dirname(os.path.abspath(__file__))))
+from tests import clusters, whole_maps  # noqa: E402
 
 # The kinds that every map may have, and all: straw2 the program takes where it is told to.
 PLAIN = ("uniform", "list", "tree")
 KINDS = (*PLAIN, "straw2")
-# The whole share of an OSD.
-FULL = 65536
+# An OSD that is there, a rule, and a map with every OSD up that is there.
+osd, rule, with_all_up = whole_maps.osd_of, whole_maps.rule_of, clusters.raised
 
 
-def osds(count: Any, weight: int = FULL) -> list[Any]:
+def osds(count: Any, weight: int = whole_maps.FULL) -> list[Any]:
     """So many OSDs that are up, with a reweight."""
     return [osd(number, weight=weight) for number in range(count)]
 
 
-def osd(number: int, is_up: bool = True, weight: int = FULL) -> dict[str, Any]:
-    """An OSD that is there."""
-    return {"exists": True, "id": number, "up": is_up, "weight": weight}
-
-
-def pool(number: int, groups: Any, size: int = 3, kind: str = "replicated", rule: int = 0) -> dict[Any, Any]:
+def pool(number: int, groups: Any, size: int = 3, kind: str = "replicated", rule: int = 0) -> dict[str, Any]:
     """A pool that places as many groups as it has."""
-    return {"id": number, "kind": kind, "pg_num": groups, "pgp_num": groups, "rule": rule, "size": size}
+    return whole_maps.pool_of(number, groups, size, rule, kind)
 
 
-def rule(steps: Any, number: int = 0, kind: str = "replicated") -> dict[str, Any]:
-    """A rule."""
-    return {"id": number, "kind": kind, "steps": steps}
-
-
-def whole(buckets: Any, rules: Any, pools: Any, osds: Any, **more: Any) -> dict[Any, Any]:
-    """A map with room for these OSDs alone, of version 1 unless `more` says another."""
-    own = {"buckets": buckets, "epoch": 100_000, "max_osd": len(osds), "osds": osds, "pools": pools, "rules": rules}
-    return {**own, "version": 1, **more}
+def whole(buckets: Any, rules: Any, pools: Any, osds: Any, **more: Any) -> dict[str, Any]:
+    """A map of an epoch that real clusters have, unless `more` says another."""
+    return whole_maps.map_of(buckets, rules, pools, osds, **{"epoch": 100_000, **more})
 
 
 def a_map(buckets: Any, count: Any, steps: Any, pools: Any, groups: Any) -> dict[Any, Any]:
@@ -168,11 +162,6 @@ def trees_of(stated: Any, pool: Any) -> list[set[int]]:
             own = reached(step[1])
             trees = [tree for tree in trees if not tree & own] + [own.union(*(tree for tree in trees if tree & own))]
     return trees
-
-
-def with_all_up(stated: Any) -> dict[Any, Any]:
-    """The map with every OSD up that is there."""
-    return dict(stated, osds=[dict(own, up=own["exists"]) for own in stated["osds"]])
 
 
 def exceptions_of(stated: Any) -> tuple[list[Any], list[Any]]:

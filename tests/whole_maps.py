@@ -1,5 +1,5 @@
 """Whole maps by what a test cares for, and what tests read of maps. The keys of a map, an OSD and a pool stand here
-once, for all tests that make maps of their own."""
+once, for all tests and benches that make maps of their own, and for rows that state an OSD or a pool."""
 
 from __future__ import annotations
 
