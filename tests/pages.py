@@ -89,12 +89,12 @@ NOT_LOOKED_FOR = {"Memory"}
 # The words of each list, but for those that mean other things elsewhere, and what share of them a file of the tools,
 # the tests, the benches or the pages has at least between quotes or by itself if it is a place of the list.
 KEY_OF_MAP = "A key of a map"
+# The types of what a text states of a map, and the records of a map and of a pool with the files that declare them.
 TYPES_OF_KEYS = r"\b(?:MapParts|OsdPart|PoolPart|OsdState)\b"
+RECORDS_OF_KEYS = {"ClusterMap": "osdmap/specs/Maps.antt", "PoolFacts": "maptypes/specs/Pools.antt"}
 CHANGE_KEYS = " ".join({*PARTS} - {"up"})
-MAP_KEYS = " ".join(
-    {*maps.Map.__annotations__, *maps.Pool.__annotations__, *maps.Osd.__annotations__}
-    - {"version", "epoch", "id", "kind", "rule", "size", "up", "weight"}
-)
+KEYS = {*maps.Map.__annotations__, *maps.Pool.__annotations__, *maps.Osd.__annotations__}
+MAP_KEYS = " ".join(KEYS - {"version", "epoch", "id", "kind", "rule", "size", "up", "weight"})
 LINES = "up ups count groups epoch dump change apply await balance follow fup fups fkept fdump"
 WORDS_OF_LISTS = {
     "A kind of bucket": ("uniform list tree straw2", 0.75),
@@ -267,6 +267,26 @@ def options_of_programs() -> list[str]:
 def has_most(source: str, words: list[str], share: float, flags: int = re.M) -> bool:
     """Whether a text has at least a share of some words, each behind a quote or as the name of a field."""
     return sum(bool(re.search(rf"[\"'`\\]{word}\b|^ *{word}: ", source, flags)) for word in words) >= share * len(words)
+
+
+def code_in(path: pathlib.Path, source: str) -> str:
+    """A source of a crate without its comments."""
+    return re.sub("//.*" if path.suffix == ".rt" else "--.*", "", source)
+
+
+def fields_of(record: str, declaration: str) -> list[str]:
+    """The fields of a record."""
+    body = found_in(rf"^pub record {record} : .*\n((?:  pub .*\n)+)", declaration, re.MULTILINE)
+    return re.findall(r"^  pub (\w+)", body, re.MULTILINE)
+
+
+def has_keys(code: str, records: list[list[str]]) -> bool:
+    """Whether code has a type of what maps have with two keys at least, as a source of one has no place for others; or
+    sets, states or matches most fields of one of the records."""
+    if re.search(TYPES_OF_KEYS, code) and len(KEYS.intersection(re.findall(r"\w+", code))) > 1:
+        return True
+    said = set(re.findall(r"\b(\w+) ?[=:](?![=:])", code))
+    return any(len(said.intersection(fields)) >= 0.75 * len(fields) for fields in records)
 
 
 def looked_for(kind: str, declaration: str) -> set[str]:
@@ -444,11 +464,12 @@ class Pages(Case):
     def test_places_beside_crates(self) -> None:
         """Each file of the tools, the tests, the benches and the pages that has most of the keys of a map or a change,
         of the kinds of buckets, of the lines or of the refusals is in the list of its kind, as each file of a crate is
-        that has a type of what maps have, or with its tests most of the keys of a map or a change"""
+        that has keys of what maps have, or with its tests most of the keys of a map or a change"""
         texts, crates = beside_crates(), sources_of_things()
         whole = {path: source for path, source in sources().items() if path.stem not in ("Answers", "Invariants")}
         names = re.findall(r"^\| \d+ \| `?(\w+)`? \|", text("docs", "FORMATS.md"), re.MULTILINE)
         self.assertGreater(len(names), 20)
+        records = [fields_of(record, text("crates", *file.split("/"))) for record, file in RECORDS_OF_KEYS.items()]
         for heading, (words, share) in [*WORDS_OF_LISTS.items(), ("A refusal", (" ".join(names), 0.6))]:
             with self.subTest(list=heading):
                 form = [
@@ -465,7 +486,7 @@ class Pages(Case):
                 if heading in (KEY_OF_MAP, "A part of a change"):
                     form += [path for path, source in whole.items() if has_most(source, words.split(), share)]
                 if heading == KEY_OF_MAP:
-                    form += [path for path, source in crates.items() if re.search(TYPES_OF_KEYS, source)]
+                    form += [path for path, source in crates.items() if has_keys(code_in(path, source), records)]
                 places = listed(heading)
                 self.assertTrue(form)
                 self.assertFalse({str(path.relative_to(TOP)) for path in places if not path.exists()}, "are not there")
