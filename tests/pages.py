@@ -70,8 +70,8 @@ OTHER_NAMES = {
 }
 # What a command line has of itself.
 OF_PARSERS = {"--help", "--version"}
-# The lists of places in CONTRIBUTING.md: of each the enums whose variants are looked for, or the struct whose fields
-# are, and where that is declared. Out of memory is not looked for: it stands wherever a call allocates.
+# The lists of places in CONTRIBUTING.md: of each the enums whose variants are looked for, and where each is declared.
+# Out of memory is not looked for: it stands wherever a call allocates.
 COMMAND, REPLY, QUESTION = "session/src/command.rt", "session/src/reply.rt", "monitor/src/question.rt"
 LISTS = {
     "A kind of bucket": {"BucketKind": "buckets/src/bucket.rt"},
@@ -82,24 +82,36 @@ LISTS = {
         "Task": COMMAND,
         "Reply": REPLY,
     },
-    "A part of a change": {"ChangeParts": "maptypes/src/change.rt"},
     "A refusal": {"Refusal": "refusal/src/refused.rt"},
 }
 NOT_LOOKED_FOR = {"Memory"}
 # The words of each list, but for those that mean other things elsewhere, and what share of them a file of the tools,
 # the tests, the benches or the pages has at least between quotes or by itself if it is a place of the list.
 KEY_OF_MAP = "A key of a map"
-# The types of what a text states of a map, and the records of a map and of a pool with the files that declare them.
-TYPES_OF_KEYS = r"\b(?:MapParts|OsdPart|PoolPart|OsdState)\b"
-RECORDS_OF_KEYS = {"ClusterMap": "osdmap/specs/Maps.antt", "PoolFacts": "maptypes/specs/Pools.antt"}
+PART_OF_CHANGE = "A part of a change"
+CHANGE = ("maptypes", "src", "change.rt")
+# The types of what has keys of a map, by the files that declare them: what is stated of one, and what it has of an OSD.
+TYPES_OF_KEYS = {
+    "MapParts": "mapparts/src/parts.rt",
+    "OsdPart": "mapparts/src/parts.rt",
+    "PoolPart": "mapparts/src/parts.rt",
+    "OsdState": "maptypes/src/osd.rt",
+}
+# The records of a map and of a pool, each with the struct that it is seen of, by the files that declare them.
+RECORDS_OF_KEYS = {
+    ("ClusterMap", "OsdMap"): "osdmap/specs/Maps.antt",
+    ("PoolFacts", "Pool"): "maptypes/specs/Pools.antt",
+}
 CHANGE_KEYS = " ".join({*PARTS} - {"up"})
-KEYS = {*maps.Map.__annotations__, *maps.Pool.__annotations__, *maps.Osd.__annotations__}
-MAP_KEYS = " ".join(KEYS - {"version", "epoch", "id", "kind", "rule", "size", "up", "weight"})
+MAP_KEYS = " ".join(
+    {*maps.Map.__annotations__, *maps.Pool.__annotations__, *maps.Osd.__annotations__}
+    - {"version", "epoch", "id", "kind", "rule", "size", "up", "weight"}
+)
 LINES = "up ups count groups epoch dump change apply await balance follow fup fups fkept fdump"
 WORDS_OF_LISTS = {
     "A kind of bucket": ("uniform list tree straw2", 0.75),
     "A line of a script": (LINES, 0.6),
-    "A part of a change": (CHANGE_KEYS, 0.6),
+    PART_OF_CHANGE: (CHANGE_KEYS, 0.6),
     KEY_OF_MAP: (MAP_KEYS, 0.75),
 }
 # What the page of a crate has.
@@ -269,44 +281,84 @@ def has_most(source: str, words: list[str], share: float, flags: int = re.M) -> 
     return sum(bool(re.search(rf"[\"'`\\]{word}\b|^ *{word}: ", source, flags)) for word in words) >= share * len(words)
 
 
+def body_of(kind: str, declaration: str) -> str:
+    """What stands between the braces of an enum or a struct."""
+    head = rf"^pub(?:\(crate\))? (?:enum|struct) {kind}(?:<[^>]*>)? {{\n(.*?)^}}"
+    return found_in(head, declaration, re.MULTILINE | re.DOTALL)
+
+
 def code_in(path: pathlib.Path, source: str) -> str:
-    """A source of a crate without its comments."""
-    return re.sub("//.*" if path.suffix == ".rt" else "--.*", "", source)
+    """A source of a crate without its comments and the parts of changes, which have names of keys."""
+    parts = "|".join(re.escape(part) for names in families().values() for part in names)
+    return re.sub(rf"{'//' if path.suffix == '.rt' else '--'}.*|\b(?:{parts})\b", "", source)
 
 
-def fields_of(record: str, declaration: str) -> list[str]:
-    """The fields of a record."""
-    body = found_in(rf"^pub record {record} : .*\n((?:  pub .*\n)+)", declaration, re.MULTILINE)
-    return re.findall(r"^  pub (\w+)", body, re.MULTILINE)
+def keys_of_types() -> dict[str, list[str]]:
+    """The fields of each type of what has keys of a map."""
+    return {
+        kind: re.findall(r"^    pub (\w+): ", body_of(kind, text("crates", *file.split("/"))), re.MULTILINE)
+        for kind, file in TYPES_OF_KEYS.items()
+    }
 
 
-def has_keys(code: str, records: list[list[str]]) -> bool:
-    """Whether code has a type of what maps have with two keys at least, as a source of one has no place for others; or
-    sets, states or matches most fields of one of the records."""
-    if re.search(TYPES_OF_KEYS, code) and len(KEYS.intersection(re.findall(r"\w+", code))) > 1:
+def keys_of_records() -> dict[tuple[str, str], list[str]]:
+    """The fields of the records of a map and of a pool."""
+    found = {}
+    for names, file in RECORDS_OF_KEYS.items():
+        head = rf"^pub record {names[0]} : .*\n((?:  pub .*\n)+)"
+        body = found_in(head, text("crates", *file.split("/")), re.MULTILINE)
+        found[names] = re.findall(r"^  pub (\w+)", body, re.MULTILINE)
+    return found
+
+
+def used_of(code: str, fields: list[str], use: str) -> int:
+    """How many of some fields code uses in a way."""
+    return sum(bool(re.search(use.format(field), code)) for field in fields)
+
+
+def has_keys(code: str) -> bool:
+    """Whether code has a type of what maps have with two of its keys at least, as a source of one has no place for
+    others; or sets, states or matches all fields of the record of a map or of a pool, or most of one that it names."""
+    used, said = r"\.{0}\b|\b{0}(?: ?[=:](?![=:])|,|\s*}})", r"\b{0} ?[=:](?![=:])"
+    if any(re.search(rf"\b{kind}\b", code) and used_of(code, own, used) > 1 for kind, own in keys_of_types().items()):
         return True
-    said = set(re.findall(r"\b(\w+) ?[=:](?![=:])", code))
-    return any(len(said.intersection(fields)) >= 0.75 * len(fields) for fields in records)
+    for names, fields in keys_of_records().items():
+        share = 0.75 if re.search(rf"\b(?:{'|'.join(names)})\b", code) else 1
+        if used_of(code, fields, said) >= share * len(fields):
+            return True
+    return False
 
 
 def looked_for(kind: str, declaration: str) -> set[str]:
-    """The variants of an enum, but for those that are not looked for; or the fields of a struct that have an
-    underscore, so that they are no words of other things."""
-    body = found_in(
-        rf"^pub(?:\(crate\))? (?:enum|struct) {kind}(?:<'a>)? {{\n(.*?)^}}", declaration, re.MULTILINE | re.DOTALL
-    )
-    return set(re.findall(r"^    (?:pub (?=\w+_\w+:)|(?=[A-Z]))(\w+)", body, re.MULTILINE)) - NOT_LOOKED_FOR
+    """The variants of an enum, but for those that are not looked for."""
+    return set(re.findall(r"^    ([A-Z]\w+)", body_of(kind, declaration), re.MULTILINE)) - NOT_LOOKED_FOR
 
 
 def named_in(source: str, kind: str, names: set[str]) -> set[str]:
-    """Which of the names a source has: a variant by its path or in an import; fields as words, of which one alone does
-    not count, since a source of one part has no place for others."""
-    if not any(name[0].isupper() for name in names):
-        fields = names.intersection(re.findall(r"\w+", source))
-        return fields if len(fields) > 1 else set()
+    """Which of the names a source has: a variant by its path or in an import."""
     imports = re.findall(rf"\b{kind}\.TheVariants(?:\.{{([^}}]*)}}| as )", source)
     found = re.findall(rf"\b{kind}::(\w+)", source) + re.findall(r"(?:^|,)\s*(\w+)", "\n".join(imports), re.MULTILINE)
     return names if "" in imports else names.intersection(found)
+
+
+def families() -> dict[str, list[str]]:
+    """Of each family of the parts of a change, by its type, each part that a change has of it: a field of the family
+    behind one of the change."""
+    own, theirs = text("crates", *CHANGE), text("crates", "mapparts", "src", "change.rt")
+    parts: dict[str, list[str]] = {}
+    for field, kind in re.findall(r"^    pub (\w+): (\w+Changes)<", body_of("ChangeParts", own), re.MULTILINE):
+        fields = re.findall(r"^    pub (\w+): ", body_of(kind, theirs), re.MULTILINE)
+        parts.setdefault(kind, []).extend(f"{field}.{name}" for name in fields)
+    return parts
+
+
+def families_in(source: str) -> set[str]:
+    """The families that a source names: by the type, or by a part."""
+    return {
+        kind
+        for kind, parts in families().items()
+        if re.search("|".join(rf"\b{re.escape(name)}\b" for name in (kind, *parts)), source)
+    }
 
 
 class Pages(Case):
@@ -461,6 +513,16 @@ class Pages(Case):
                     self.assertEqual(set().union(*found.values()), names)
                     self.assertFalse(unlisted, f"have names of {kind} and are not listed for {heading}")
 
+    def test_places_of_a_part(self) -> None:
+        """Each file of a crate that names two families of the parts of a change is in the list of their places: a file
+        of one family has no place for another"""
+        found = {path: families_in(source) for path, source in sources_of_things().items()}
+        self.assertGreater(len(families()), 2)
+        self.assertEqual(set().union(*found.values()), set(families()))
+        places = listed(PART_OF_CHANGE)
+        several = {path for path, has in found.items() if len(has) > 1}
+        self.assertFalse(sorted(str(path.relative_to(TOP)) for path in several - places), "are not listed")
+
     def test_places_beside_crates(self) -> None:
         """Each file of the tools, the tests, the benches and the pages that has most of the keys of a map or a change,
         of the kinds of buckets, of the lines or of the refusals is in the list of its kind, as each file of a crate is
@@ -469,7 +531,6 @@ class Pages(Case):
         whole = {path: source for path, source in sources().items() if path.stem not in ("Answers", "Invariants")}
         names = re.findall(r"^\| \d+ \| `?(\w+)`? \|", text("docs", "FORMATS.md"), re.MULTILINE)
         self.assertGreater(len(names), 20)
-        records = [fields_of(record, text("crates", *file.split("/"))) for record, file in RECORDS_OF_KEYS.items()]
         for heading, (words, share) in [*WORDS_OF_LISTS.items(), ("A refusal", (" ".join(names), 0.6))]:
             with self.subTest(list=heading):
                 form = [
@@ -483,10 +544,10 @@ class Pages(Case):
                         for path, source in texts.items()
                         if len(set(names).intersection(re.findall(r"\w+", source))) >= share * len(set(names))
                     ]
-                if heading in (KEY_OF_MAP, "A part of a change"):
+                if heading in (KEY_OF_MAP, PART_OF_CHANGE):
                     form += [path for path, source in whole.items() if has_most(source, words.split(), share)]
                 if heading == KEY_OF_MAP:
-                    form += [path for path, source in crates.items() if has_keys(code_in(path, source), records)]
+                    form += [path for path, source in crates.items() if has_keys(code_in(path, source))]
                 places = listed(heading)
                 self.assertTrue(form)
                 self.assertFalse({str(path.relative_to(TOP)) for path in places if not path.exists()}, "are not there")
@@ -541,10 +602,10 @@ class Pages(Case):
         self.assertEqual(ends, [min(of_maps), max(of_maps), min(others), max(others)])
 
     def test_parts_of_a_change(self) -> None:
-        """Each page that counts the parts of a change counts the fields of `ChangeParts`"""
-        source = text("crates", *LISTS["A part of a change"]["ChangeParts"].split("/"))
-        body = found_in(r"^pub struct ChangeParts {\n(.*?)^}", source, re.M | re.S)
-        count = len(re.findall(r"^    pub (?!profile\b)\w+: ", body, re.M))
+        """Each page that counts the parts of a change counts the fields of `ChangeParts`, of a family each of its own"""
+        body = body_of("ChangeParts", text("crates", *CHANGE))
+        alone = re.findall(r"^    pub (?!profile\b)\w+: (?!\w+Changes<)", body, re.M)
+        count = len(alone) + sum(len(parts) for parts in families().values())
         said = {
             (page.name, word)
             for page in pages()

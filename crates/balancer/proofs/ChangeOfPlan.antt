@@ -153,16 +153,7 @@ module _ (m : ClusterMap) (items : List (Exception Pair)) where
   -- the map after it
   pub next_with : changed_map m change ≡ record (with_pairs m (fold (put key_of) m.items items)) { epoch = m.epoch + 1 }
   unfolding apply
-  next_with = λ i. record {
-    epoch = m.epoch + 1;
-    buckets = m.buckets;
-    rules = m.rules;
-    pools = after_same i;
-    presences = m.presences;
-    weights = m.weights;
-    explicit = explicit_same i;
-    items = items_put i;
-  }
+  next_with = rw (after_same, explicit_same, items_put) refl
 
 -- ---- the pairs of a plan
 

@@ -35,7 +35,7 @@ use Rattle.maptypes.proofs.NamedParts.{comes}
 use Rattle.osdmap.proofs.Kept.{HoldsTogether-after, exists-after}
 use Rattle.osdmap.proofs.Named.{below_max}
 use Rattle.partjson.specs.Profiles.{brings_kinds}
-use Rattle.mapjson.specs.ChangeTexts.{is_pool_id, reweight_fits, entries_fit, change_fits}
+use Rattle.mapparts.specs.Changes.{is_pool_id, reweight_fits, entries_fit, change_fits}
 use Rattle.mapjson.specs.PartsOfChange.{growth_part, reweight_part, crush_parts, change_parts}
 use Rattle.mapjson.specs.WrittenChanges.{fits_text}
 use Rattle.map_laws.specs.ChangeLaws.{AcceptedFits}
@@ -173,13 +173,13 @@ module _ (m : ClusterMap) (c : ChangeParts) (holds : HoldsTogether m) (is : IsCh
       osd_below osd there' = let below' = below_max m osd 4096 holds.osds.few there' in grind (arith, nat_tests, below')
 
   -- so do their new reweights
-  weights_fit : list_all (λ w. osd_exists m w.osd) c.weight ≡ true → list_all (λ w. nat_le w.weight 65536) c.weight ≡ true → IsRising (λ w. w.osd) c.weight → entries_fit reweight_fits (map reweight_part c.weight) ≡ true
+  weights_fit : list_all (λ w. osd_exists m w.osd) c.weights ≡ true → list_all (λ w. nat_le w.weight 65536) c.weights ≡ true → IsRising (λ w. w.osd) c.weights → entries_fit reweight_fits (map reweight_part c.weights) ≡ true
   unfolding reweight_fits
   weights_fit there light rises =
-      let below : All (λ (w : Reweight). w.osd < 4096) c.weight = All-weaker (λ w. osd_exists m w.osd ≡ true) (λ w. w.osd < 4096) osd_below c.weight (AllPass-from_list_all (λ w. osd_exists m w.osd) c.weight there) in
-      let count = few_below (λ (w : Reweight). w.osd) 4096 c.weight rises below in
-      list_fits reweight_part reweight_fits c.weight (omega (arith, count))
-      (all_both (λ w. osd_exists m w.osd) (λ w. nat_le w.weight 65536) (λ w. reweight_fits (reweight_part w)) one_fits c.weight there light)
+      let below : All (λ (w : Reweight). w.osd < 4096) c.weights = All-weaker (λ w. osd_exists m w.osd ≡ true) (λ w. w.osd < 4096) osd_below c.weights (AllPass-from_list_all (λ w. osd_exists m w.osd) c.weights there) in
+      let count = few_below (λ (w : Reweight). w.osd) 4096 c.weights rises below in
+      list_fits reweight_part reweight_fits c.weights (omega (arith, count))
+      (all_both (λ w. osd_exists m w.osd) (λ w. nat_le w.weight 65536) (λ w. reweight_fits (reweight_part w)) one_fits c.weights there light)
     where
       osd_below : (w : Reweight) → osd_exists m w.osd ≡ true → w.osd < 4096
       osd_below w there' = let below' = below_max m w.osd 4096 holds.osds.few there' in grind (arith, nat_tests, below')
@@ -209,40 +209,40 @@ module _ (m : ClusterMap) (c : ChangeParts) (holds : HoldsTogether m) (is : IsCh
   pools_next = refl
 
   -- so the explicit sets that come are within the limits
-  explicit_fit : exceptions_fit is_osd_id (map (exception_part pos) c.new_upmap) ≡ true
+  explicit_fit : exceptions_fit is_osd_id (map (exception_part pos) c.explicit.come) ≡ true
   unfolding names_osds names_groups all_named_groups excepts_soundly
   explicit_fit =
-      let right = come target is_set c.new_upmap (grind (arith, ok.groups)) (grind (arith, ok.osds)) (grind (arith, ok.sound)) in
-      exceptions_fine next next_holds target is_set pos is_osd_id (target_fine next next_holds) c.new_upmap (comes c ok.once is.in_order).upmap (rw pools_next right)
+      let right = come target is_set c.explicit.come (grind (arith, ok.groups)) (grind (arith, ok.osds)) (grind (arith, ok.sound)) in
+      exceptions_fine next next_holds target is_set pos is_osd_id (target_fine next next_holds) c.explicit.come (comes c ok.once is.in_order).upmap (rw pools_next right)
 
   -- and so are the pairs that come
-  items_fit : exceptions_fit pair_fits (map (exception_part pair_part) c.new_items) ≡ true
+  items_fit : exceptions_fit pair_fits (map (exception_part pair_part) c.items.come) ≡ true
   unfolding names_osds names_groups all_named_groups excepts_soundly
   items_fit =
-      let right = come sides are_pairs c.new_items (grind (arith, ok.groups)) (grind (arith, ok.osds)) (grind (arith, ok.sound)) in
-      exceptions_fine next next_holds sides are_pairs pair_part pair_fits (pair_fine next next_holds) c.new_items (comes c ok.once is.in_order).items (rw pools_next right)
+      let right = come sides are_pairs c.items.come (grind (arith, ok.groups)) (grind (arith, ok.osds)) (grind (arith, ok.sound)) in
+      exceptions_fine next next_holds sides are_pairs pair_part pair_fits (pair_fine next next_holds) c.items.come (comes c ok.once is.in_order).items (rw pools_next right)
 
   -- the lists of a change rise, as no key stands twice
   record Rise : Type 0 where
-    old_pools : IsRising (λ id. id) c.old_pools
-    grow_pool : IsRising (λ g. g.pool) c.grow_pool
-    down : IsRising (λ osd. osd) c.down
-    up : IsRising (λ osd. osd) c.up
-    weight : IsRising (λ w. w.osd) c.weight
-    old_upmap : IsRising pg_key c.old_upmap
-    old_items : IsRising pg_key c.old_items
+    gone_pools : IsRising (λ id. id) c.pools.gone
+    growths : IsRising (λ g. g.pool) c.pools.grow
+    down : IsRising (λ osd. osd) c.osds.down
+    up : IsRising (λ osd. osd) c.osds.up
+    weights : IsRising (λ w. w.osd) c.weights
+    gone_sets : IsRising pg_key c.explicit.gone
+    gone_pairs : IsRising pg_key c.items.gone
 
   -- so they do, as the change is not refused
   rises : Rise
   unfolding names_once
   rises = record {
-    old_pools = distinct_rises (λ (id : ℕ). id) c.old_pools is.in_order.old_pools (first_distinct _ (map (λ (p : PoolFacts). p.id) c.new_pools) (grind (arith, ok.once)));
-    grow_pool = distinct_rises (λ (g : Growth). g.pool) c.grow_pool is.in_order.grow_pool (second_distinct (map (λ (p : PoolFacts). p.id) c.new_pools) _ (grind (arith, ok.once)));
-    down = distinct_rises (λ (osd : ℕ). osd) c.down is.in_order.down (first_distinct _ (map (λ (osd : ℕ). osd) c.up) (grind (arith, ok.once)));
-    up = distinct_rises (λ (osd : ℕ). osd) c.up is.in_order.up (second_distinct (map (λ (osd : ℕ). osd) c.down) _ (grind (arith, ok.once)));
-    weight = distinct_rises (λ (w : Reweight). w.osd) c.weight is.in_order.weight (grind (arith, ok.once));
-    old_upmap = distinct_rises pg_key c.old_upmap is.in_order.old_upmap (first_distinct _ (map key_of c.new_upmap) (grind (arith, ok.once)));
-    old_items = distinct_rises pg_key c.old_items is.in_order.old_items (first_distinct _ (map key_of c.new_items) (grind (arith, ok.once)));
+    gone_pools = distinct_rises (λ (id : ℕ). id) c.pools.gone is.in_order.pools.gone (first_distinct _ (map (λ (p : PoolFacts). p.id) c.pools.come) (grind (arith, ok.once)));
+    growths = distinct_rises (λ (g : Growth). g.pool) c.pools.grow is.in_order.pools.grow (second_distinct (map (λ (p : PoolFacts). p.id) c.pools.come) _ (grind (arith, ok.once)));
+    down = distinct_rises (λ (osd : ℕ). osd) c.osds.down is.in_order.osds.down (first_distinct _ (map (λ (osd : ℕ). osd) c.osds.up) (grind (arith, ok.once)));
+    up = distinct_rises (λ (osd : ℕ). osd) c.osds.up is.in_order.osds.up (second_distinct (map (λ (osd : ℕ). osd) c.osds.down) _ (grind (arith, ok.once)));
+    weights = distinct_rises (λ (w : Reweight). w.osd) c.weights is.in_order.weights (grind (arith, ok.once));
+    gone_sets = distinct_rises pg_key c.explicit.gone is.in_order.explicit.gone (first_distinct _ (map key_of c.explicit.come) (grind (arith, ok.once)));
+    gone_pairs = distinct_rises pg_key c.items.gone is.in_order.items.gone (first_distinct _ (map key_of c.items.come) (grind (arith, ok.once)));
   }
 
   -- each limit
@@ -251,15 +251,15 @@ module _ (m : ClusterMap) (c : ChangeParts) (holds : HoldsTogether m) (is : IsCh
   limits =
       rw (
         natural_fits 0 18446744073709551615 0 (omega arith) (omega arith),
-        ids_fit m.pools c.old_pools holds.pools.within rises.old_pools (grind (arith, ok.pools)),
-        crush_fine c.new_crush is.crush_map,
-        new_pools_fit c.new_pools is.pools_within (comes c ok.once is.in_order).pools,
-        growths_fit c.grow_pool is.growths_within rises.grow_pool,
-        osds_fit c.down rises.down (grind (arith, ok.osds)),
-        osds_fit c.up rises.up (grind (arith, ok.osds)),
-        weights_fit (grind (arith, ok.osds)) (grind (arith, ok.weights)) rises.weight,
-        groups_fit next.pools c.old_upmap next_holds.pools.within next_holds.pools.few_groups rises.old_upmap (rw pools_next (grind (arith, ok.groups))),
-        groups_fit next.pools c.old_items next_holds.pools.within next_holds.pools.few_groups rises.old_items (rw pools_next (grind (arith, ok.groups))),
+        ids_fit m.pools c.pools.gone holds.pools.within rises.gone_pools (grind (arith, ok.pools)),
+        crush_fine c.crush is.crush_map,
+        new_pools_fit c.pools.come is.pools_within (comes c ok.once is.in_order).pools,
+        growths_fit c.pools.grow is.growths_within rises.growths,
+        osds_fit c.osds.down rises.down (grind (arith, ok.osds)),
+        osds_fit c.osds.up rises.up (grind (arith, ok.osds)),
+        weights_fit (grind (arith, ok.osds)) (grind (arith, ok.weights)) rises.weights,
+        groups_fit next.pools c.explicit.gone next_holds.pools.within next_holds.pools.few_groups rises.gone_sets (rw pools_next (grind (arith, ok.groups))),
+        groups_fit next.pools c.items.gone next_holds.pools.within next_holds.pools.few_groups rises.gone_pairs (rw pools_next (grind (arith, ok.groups))),
         explicit_fit,
         items_fit,
       ) refl
@@ -267,7 +267,7 @@ module _ (m : ClusterMap) (c : ChangeParts) (holds : HoldsTogether m) (is : IsCh
   -- so a text may state it by the stock profile
   stock_fits : fits_text Stock c ≡ true
   unfolding fits_text
-  stock_fits = rw (kinds c.new_crush, limits) refl
+  stock_fits = rw (kinds c.crush, limits) refl
     where
       kinds : (k : Option CrushFacts) → brings_kinds Stock (option_map crush_parts k) ≡ true
       kinds None = refl

@@ -14,7 +14,8 @@ use Rattle.jsonstream.specs.Json.{stated_by}
 use Rattle.partjson.specs.StatedChanges.{stated_change}
 use Rattle.partjson.specs.Profiles.{brings_kinds, change_allowed, change_in}
 use Rattle.mapjson.specs.Written.{IsNamed}
-use Rattle.mapjson.specs.ChangeTexts.{change_is_plain, change_fits, fault_of_stated_change, change_text_fault, IsChangeStated, StatesChange}
+use Rattle.mapparts.specs.Changes.{change_is_plain, change_fits}
+use Rattle.mapjson.specs.ChangeTexts.{fault_of_stated_change, change_text_fault, IsChangeStated, StatesChange}
 use Rattle.mapjson.specs.PartsOfChange.{crush_parts, change_parts}
 use Rattle.mapjson.specs.WrittenChanges.{change_data, HasNamed, fits_text, written_change}
 use Rattle.mapjson.proofs.Readable.{read-compact_text, IsUtf8-compact_text}
@@ -28,15 +29,19 @@ use Rattle.map_laws.proofs.ReadBack.{kept_or, kept_of}
 -- the groups of a change's parts are named where those of the change are
 pub parts_named : (base : ℕ) (c : ChangeParts) → EachNamed (λ g. IsNamed (pg_part g)) c → HasNamed (change_parts base c)
 parts_named base c each = record {
-  old_upmap = All-map IsNamed pg_part c.old_upmap each.old_upmap;
-  old_items = All-map IsNamed pg_part c.old_items each.old_items;
-  new_upmap = All-map (λ e. IsNamed e.pg) (exception_part pos) c.new_upmap each.new_upmap;
-  new_items = All-map (λ e. IsNamed e.pg) (exception_part pair_part) c.new_items each.new_items;
+  explicit = record {
+    gone = All-map IsNamed pg_part c.explicit.gone each.explicit.gone;
+    come = All-map (λ e. IsNamed e.pg) (exception_part pos) c.explicit.come each.explicit.come;
+  };
+  items = record {
+    gone = All-map IsNamed pg_part c.items.gone each.items.gone;
+    come = All-map (λ e. IsNamed e.pg) (exception_part pair_part) c.items.come each.items.come;
+  };
 }
 
 -- each test that a change passes which a text may state
 record Fits (c : ChangeParts) : Type 0 where
-  kinds : brings_kinds c.profile (option_map crush_parts c.new_crush) ≡ true
+  kinds : brings_kinds c.profile (option_map crush_parts c.crush) ≡ true
   plain : (is_stock c.profile || change_is_plain (change_parts 0 c)) ≡ true
   limits : change_fits (change_parts 0 c) ≡ true
 
@@ -44,8 +49,8 @@ record Fits (c : ChangeParts) : Type 0 where
 fits_each : (c : ChangeParts) → fits_text c.profile c ≡ true → Fits c
 unfolding fits_text
 fits_each c fits =
-    let limits = and_parts (brings_kinds c.profile (option_map crush_parts c.new_crush) && (is_stock c.profile || change_is_plain (change_parts 0 c))) (change_fits (change_parts 0 c)) fits in
-    let plain = and_parts (brings_kinds c.profile (option_map crush_parts c.new_crush)) (is_stock c.profile || change_is_plain (change_parts 0 c)) limits.0 in
+    let limits = and_parts (brings_kinds c.profile (option_map crush_parts c.crush) && (is_stock c.profile || change_is_plain (change_parts 0 c))) (change_fits (change_parts 0 c)) fits in
+    let plain = and_parts (brings_kinds c.profile (option_map crush_parts c.crush)) (is_stock c.profile || change_is_plain (change_parts 0 c)) limits.0 in
     record { kinds = plain.0; plain = plain.1; limits = limits.1 }
 
 module _ (base : ℕ) (c : ChangeParts) (wide : base < 2 ^ 64) (fits : Fits c) where
@@ -80,16 +85,11 @@ module _ (base : ℕ) (c : ChangeParts) (wide : base < 2 ^ 64) (fits : Fits c) w
 is_change_of : (profile : Profile) (c : ChangeParts) → IsChange c → IsChange (of_profile profile c)
 is_change_of profile c is = record {
   in_order = record {
-    old_pools = is.in_order.old_pools;
-    new_pools = is.in_order.new_pools;
-    grow_pool = is.in_order.grow_pool;
-    down = is.in_order.down;
-    up = is.in_order.up;
-    weight = is.in_order.weight;
-    old_upmap = is.in_order.old_upmap;
-    old_items = is.in_order.old_items;
-    new_upmap = is.in_order.new_upmap;
-    new_items = is.in_order.new_items;
+    pools = is.in_order.pools;
+    osds = is.in_order.osds;
+    weights = is.in_order.weights;
+    explicit = is.in_order.explicit;
+    items = is.in_order.items;
   };
   pools_within = is.pools_within;
   growths_within = is.growths_within;

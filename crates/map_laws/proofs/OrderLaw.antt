@@ -48,6 +48,6 @@ all-up up ps (osd ∷ osds) n there named = elim (cases_Bool (eqb osd n)) [
 pub up_after_down : UpAfterDown
 unfolding apply
 up_after_down m step osd there down up = record {
-  in_order = all-up true (fold (with_up false) m.presences step.change.down) step.change.up osd (rw (exists-ups false m.presences step.change.down osd) there) up;
-  other_way = all-up false (fold (with_up true) m.presences step.change.up) step.change.down osd (rw (exists-ups true m.presences step.change.up osd) there) down;
+  in_order = all-up true (fold (with_up false) m.presences step.change.osds.down) step.change.osds.up osd (rw (exists-ups false m.presences step.change.osds.down osd) there) up;
+  other_way = all-up false (fold (with_up true) m.presences step.change.osds.up) step.change.osds.down osd (rw (exists-ups true m.presences step.change.osds.up osd) there) down;
 }

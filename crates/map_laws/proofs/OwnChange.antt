@@ -22,7 +22,8 @@ use Rattle.maptypes.specs.Ordered.{IsInOrder, IsChange, IsOrdered}
 use Rattle.maptypes.specs.Pools.{PoolFacts, IsWithinLimits}
 use Rattle.maptypes.specs.Values.{bucket_of, step_of, rule_of, pool_of, growth_of, pg_of, pair_of, exception_of}
 use Rattle.osdmap.specs.PartsOf.{bucket_part, step_part, rule_part, pool_part, pg_part, pair_part, exception_part}
-use Rattle.mapjson.specs.ChangeTexts.{change_is_plain, change_fits, reweight_within, parts_within, new_crush_fault, IsCrushStated, are_even, change_fault_in, IsChangeStated}
+use Rattle.mapparts.specs.Changes.{change_is_plain, change_fits, are_even}
+use Rattle.mapjson.specs.ChangeTexts.{reweight_within, parts_within, new_crush_fault, IsCrushStated, change_fault_in, IsChangeStated}
 use Rattle.mapjson.specs.PartsOfChange.{growth_part, reweight_part, crush_parts, change_parts}
 use Rattle.mapjson.proofs.OwnValues.{natural_fits, map_own, bucket_own, step_own, rule_own, pool_own, number_own, pair_own, exception_own}
 use Rattle.map_laws.proofs.OneMap.{one_rising, one_falling}
@@ -95,12 +96,12 @@ unfolding grows_evenly
 growth_even g within = grind (arith, nat_tests, within.groups_few)
 
 -- so no pool that comes or grows by a change has more groups for placement than groups
-own_even : (base : ℕ) (c : ChangeParts) → IsChange c → are_even (change_parts base c) ≡ true
+own_even : (base : ℕ) (c : ChangeParts) → IsChange c → are_even (change_parts base c).pools ≡ true
 own_even base c is =
-    let pools = list_all-map has_enough_groups pool_part c.new_pools
-    ∙ list_all-from_AllPass (λ p. has_enough_groups (pool_part p)) c.new_pools (All-weaker IsWithinLimits (λ p. has_enough_groups (pool_part p) ≡ true) pool_enough c.new_pools is.pools_within) in
-    let growths = list_all-map grows_evenly growth_part c.grow_pool
-    ∙ list_all-from_AllPass (λ g. grows_evenly (growth_part g)) c.grow_pool (All-weaker IsGrowth (λ g. grows_evenly (growth_part g) ≡ true) growth_even c.grow_pool is.growths_within) in
+    let pools = list_all-map has_enough_groups pool_part c.pools.come
+    ∙ list_all-from_AllPass (λ p. has_enough_groups (pool_part p)) c.pools.come (All-weaker IsWithinLimits (λ p. has_enough_groups (pool_part p) ≡ true) pool_enough c.pools.come is.pools_within) in
+    let growths = list_all-map grows_evenly growth_part c.pools.grow
+    ∙ list_all-from_AllPass (λ g. grows_evenly (growth_part g)) c.pools.grow (All-weaker IsGrowth (λ g. grows_evenly (growth_part g) ≡ true) growth_even c.pools.grow is.growths_within) in
     rw (pools, growths) refl
 
 -- ---- what is stated
@@ -111,79 +112,73 @@ module _ (base : ℕ) (c : ChangeParts) where
   numbers_own ns = map_own nat_abs pos number_own ns
 
   -- the parts state the change, beside its CRUSH map
-  parts_own : (k : Option CrushFacts) → parts_within c.profile (change_parts base c) k ≡ record c { new_crush = k }
+  parts_own : (k : Option CrushFacts) → parts_within c.profile (change_parts base c) k ≡ record c { crush = k }
   parts_own k = rw (
-    numbers_own c.old_pools,
-    map_own pool_of pool_part pool_own c.new_pools,
-    map_own growth_of growth_part (λ g. refl) c.grow_pool,
-    numbers_own c.down,
-    numbers_own c.up,
-    map_own reweight_within reweight_part (λ w. refl) c.weight,
-    map_own pg_of pg_part (λ g. refl) c.old_upmap,
-    map_own pg_of pg_part (λ g. refl) c.old_items,
-    map_own (exception_of nat_abs) (exception_part pos) (exception_own nat_abs pos number_own) c.new_upmap,
-    map_own (exception_of pair_of) (exception_part pair_part) (exception_own pair_of pair_part pair_own) c.new_items,
+    numbers_own c.pools.gone,
+    map_own pool_of pool_part pool_own c.pools.come,
+    map_own growth_of growth_part (λ g. refl) c.pools.grow,
+    numbers_own c.osds.down,
+    numbers_own c.osds.up,
+    map_own reweight_within reweight_part (λ w. refl) c.weights,
+    map_own pg_of pg_part (λ g. refl) c.explicit.gone,
+    map_own pg_of pg_part (λ g. refl) c.items.gone,
+    map_own (exception_of nat_abs) (exception_part pos) (exception_own nat_abs pos number_own) c.explicit.come,
+    map_own (exception_of pair_of) (exception_part pair_part) (exception_own pair_of pair_part pair_own) c.items.come,
   ) refl
 
   -- a change in order is put in order as it is
   ordered_itself : IsInOrder c → IsOrdered c c
   ordered_itself up = record {
     profile = refl;
-    old_pools = sorts_itself (λ id. id) c.old_pools up.old_pools;
-    new_crush = refl;
-    new_pools = sorts_itself (λ p. p.id) c.new_pools up.new_pools;
-    grow_pool = sorts_itself (λ g. g.pool) c.grow_pool up.grow_pool;
-    down = sorts_itself (λ osd. osd) c.down up.down;
-    up = sorts_itself (λ osd. osd) c.up up.up;
-    weight = sorts_itself (λ w. w.osd) c.weight up.weight;
-    old_upmap = sorts_itself pg_key c.old_upmap up.old_upmap;
-    old_items = sorts_itself pg_key c.old_items up.old_items;
-    new_upmap = sorts_itself key_of c.new_upmap up.new_upmap;
-    new_items = sorts_itself key_of c.new_items up.new_items;
+    pools = record {
+      gone = sorts_itself (λ id. id) c.pools.gone up.pools.gone;
+      come = sorts_itself (λ p. p.id) c.pools.come up.pools.come;
+      grow = sorts_itself (λ g. g.pool) c.pools.grow up.pools.grow;
+    };
+    crush = refl;
+    osds = record { down = sorts_itself (λ osd. osd) c.osds.down up.osds.down; up = sorts_itself (λ osd. osd) c.osds.up up.osds.up };
+    weights = sorts_itself (λ w. w.osd) c.weights up.weights;
+    explicit = record { gone = sorts_itself pg_key c.explicit.gone up.explicit.gone; come = sorts_itself key_of c.explicit.come up.explicit.come };
+    items = record { gone = sorts_itself pg_key c.items.gone up.items.gone; come = sorts_itself key_of c.items.come up.items.come };
   }
 
   -- the parts state it
   pub own_change_stated : IsChange c → IsChangeStated c.profile (change_parts base c) base c
   own_change_stated is = record {
     base_is = refl;
-    crush = crush_is_stated c.new_crush is.crush_map;
-    ordered = rw (parts_own c.new_crush) (ordered_itself is.in_order);
+    crush = crush_is_stated c.crush is.crush_map;
+    ordered = rw (parts_own c.crush) (ordered_itself is.in_order);
   }
 
   -- what is put in order of a change in order, beside its CRUSH map, is that change
-  one_ordered : (d : ChangeParts) → IsInOrder c → d.new_crush ≡ c.new_crush → IsOrdered (record c { new_crush = d.new_crush }) d → d ≡ c
+  one_ordered : (d : ChangeParts) → IsInOrder c → d.crush ≡ c.crush → IsOrdered (record c { crush = d.crush }) d → d ≡ c
   one_ordered d up crush sorts =
       let profile = sorts.profile in
-      let old_pools = sorts_alone (λ id. id) c.old_pools d.old_pools up.old_pools sorts.old_pools in
-      let new_pools = sorts_alone (λ p. p.id) c.new_pools d.new_pools up.new_pools sorts.new_pools in
-      let grow_pool = sorts_alone (λ g. g.pool) c.grow_pool d.grow_pool up.grow_pool sorts.grow_pool in
-      let down = sorts_alone (λ osd. osd) c.down d.down up.down sorts.down in
-      let ups = sorts_alone (λ osd. osd) c.up d.up up.up sorts.up in
-      let weight = sorts_alone (λ w. w.osd) c.weight d.weight up.weight sorts.weight in
-      let old_upmap = sorts_alone pg_key c.old_upmap d.old_upmap up.old_upmap sorts.old_upmap in
-      let old_items = sorts_alone pg_key c.old_items d.old_items up.old_items sorts.old_items in
-      let new_upmap = sorts_alone key_of c.new_upmap d.new_upmap up.new_upmap sorts.new_upmap in
-      let new_items = sorts_alone key_of c.new_items d.new_items up.new_items sorts.new_items in
+      let gone_pools = sorts_alone (λ id. id) c.pools.gone d.pools.gone up.pools.gone sorts.pools.gone in
+      let new_pools = sorts_alone (λ p. p.id) c.pools.come d.pools.come up.pools.come sorts.pools.come in
+      let growths = sorts_alone (λ g. g.pool) c.pools.grow d.pools.grow up.pools.grow sorts.pools.grow in
+      let down = sorts_alone (λ osd. osd) c.osds.down d.osds.down up.osds.down sorts.osds.down in
+      let ups = sorts_alone (λ osd. osd) c.osds.up d.osds.up up.osds.up sorts.osds.up in
+      let weights = sorts_alone (λ w. w.osd) c.weights d.weights up.weights sorts.weights in
+      let gone_sets = sorts_alone pg_key c.explicit.gone d.explicit.gone up.explicit.gone sorts.explicit.gone in
+      let gone_pairs = sorts_alone pg_key c.items.gone d.items.gone up.items.gone sorts.items.gone in
+      let new_sets = sorts_alone key_of c.explicit.come d.explicit.come up.explicit.come sorts.explicit.come in
+      let new_pairs = sorts_alone key_of c.items.come d.items.come up.items.come sorts.items.come in
       λ i. record {
         profile = profile i;
-        old_pools = old_pools i;
-        new_crush = crush i;
-        new_pools = new_pools i;
-        grow_pool = grow_pool i;
-        down = down i;
-        up = ups i;
-        weight = weight i;
-        old_upmap = old_upmap i;
-        old_items = old_items i;
-        new_upmap = new_upmap i;
-        new_items = new_items i;
+        pools = record { gone = gone_pools i; come = new_pools i; grow = growths i };
+        crush = crush i;
+        osds = record { down = down i; up = ups i };
+        weights = weights i;
+        explicit = record { gone = gone_sets i; come = new_sets i };
+        items = record { gone = gone_pairs i; come = new_pairs i };
       }
 
   -- and nothing else
   pub own_change_alone : IsChange c → (other : ℕ × ChangeParts) → IsChangeStated c.profile (change_parts base c) other.0 other.1 → other ≡ (base, c)
   own_change_alone is other stated =
-      let crush = one_crush c.new_crush other.1.new_crush is.crush_map stated.crush in
-      let change = one_ordered other.1 is.in_order crush (rw (parts_own other.1.new_crush) at stated.ordered) in
+      let crush = one_crush c.crush other.1.crush is.crush_map stated.crush in
+      let change = one_ordered other.1 is.in_order crush (rw (parts_own other.1.crush) at stated.ordered) in
       let number = stated.base_is in
       λ i. (number i, change i)
 
@@ -203,4 +198,4 @@ module _ (base : ℕ) (c : ChangeParts) where
   pub own_change_faultless : base < 2 ^ 64 → IsChange c → (is_stock c.profile || change_is_plain (change_parts 0 c)) ≡ true → change_fits (change_parts 0 c) ≡ true
       → change_fault_in c.profile (change_parts base c) ≡ None
   own_change_faultless wide is plain fits =
-      rw (plain_with_base plain, fits_with_base wide fits, crush_is_faultless c.new_crush is.crush_map, own_even base c is) refl
+      rw (plain_with_base plain, fits_with_base wide fits, crush_is_faultless c.crush is.crush_map, own_even base c is) refl

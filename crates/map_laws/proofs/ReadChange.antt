@@ -33,11 +33,15 @@ use Rattle.maptypes.specs.Values.{item_of, bucket_of, step_of, rule_of, pool_of,
 use Rattle.maptypes.specs.declared.change.ChangeParts.{ChangeParts}
 use Rattle.osdmap.specs.PartsOf.{item_part, bucket_part, step_part, rule_part, pool_part, pg_part, pair_part, exception_part}
 use Rattle.jsonstream.specs.Json.{◌>>=◌, json_of, stated_by}
-use Rattle.partjson.specs.declared.change.RawChange.{RawChange}
-use Rattle.partjson.specs.declared.change.RawReweight.{RawReweight}
+use Rattle.mapparts.specs.declared.change.PoolChanges.{PoolChanges}
+use Rattle.mapparts.specs.declared.change.OsdChanges.{OsdChanges}
+use Rattle.mapparts.specs.declared.change.ExceptionChanges.{ExceptionChanges}
+use Rattle.mapparts.specs.declared.change.RawChange.{RawChange}
+use Rattle.mapparts.specs.declared.change.ReweightPart.{ReweightPart}
 use Rattle.partjson.specs.StatedChanges.{stated_change}
 use Rattle.partjson.specs.Profiles.{brings_kinds, change_allowed, change_in}
-use Rattle.mapjson.specs.ChangeTexts.{is_pool_id, reweight_fits, change_fits, change_is_plain, reweight_within, new_crush_fault, IsCrushStated, are_even, change_fault_in, fault_of_stated_change, IsChangeStated}
+use Rattle.mapparts.specs.Changes.{is_pool_id, reweight_fits, change_fits, change_is_plain, are_even}
+use Rattle.mapjson.specs.ChangeTexts.{reweight_within, new_crush_fault, IsCrushStated, change_fault_in, fault_of_stated_change, IsChangeStated}
 use Rattle.mapjson.specs.PartsOfChange.{growth_part, reweight_part, crush_parts, change_parts}
 use Rattle.mapjson.specs.WrittenChanges.{fits_text}
 use Rattle.mapjson.proofs.ChangeFits.{change_fits_each}
@@ -140,7 +144,7 @@ growth_back g h =
     λ t. record { pool = pool t; pg_num = pg_num t; pgp_num = pgp_num t }
 
 -- so is the new weight of an OSD
-reweight_back : (w : RawReweight) → reweight_fits w ≡ true → reweight_part (reweight_within w) ≡ w
+reweight_back : (w : ReweightPart) → reweight_fits w ≡ true → reweight_part (reweight_within w) ≡ w
 unfolding reweight_fits
 reweight_back w h =
     let each = and_parts (is_osd_id w.osd) (is_between (pos 0) (pos 4294967295) w.weight) h in
@@ -238,71 +242,80 @@ crush_kinds Stock (Some p) (Some q) moved = refl
 
 -- ---- the change
 
+-- the same of each family, each list in another order
+record PoolsMoved (c d : PoolChanges ℤ PoolPart GrowPart) : Type 0 where
+  gone : IsPermutation c.gone d.gone
+  come : IsPermutation c.come d.come
+  grow : IsPermutation c.grow d.grow
+
+record OsdsMoved (c d : OsdChanges ℤ) : Type 0 where
+  down : IsPermutation c.down d.down
+  up : IsPermutation c.up d.up
+
+record ExceptionsMoved {P : Type 0} (c d : ExceptionChanges PgParts (ExceptionPart P)) : Type 0 where
+  gone : IsPermutation c.gone d.gone
+  come : IsPermutation c.come d.come
+
 -- the same parts, each list in another order
 record AreMoved (c d : RawChange) : Type 0 where
   base : d.base ≡ c.base
-  old_pools : IsPermutation c.old_pools d.old_pools
-  new_crush : IsCrushMoved c.new_crush d.new_crush
-  new_pools : IsPermutation c.new_pools d.new_pools
-  grow_pool : IsPermutation c.grow_pool d.grow_pool
-  down : IsPermutation c.down d.down
-  up : IsPermutation c.up d.up
-  weight : IsPermutation c.weight d.weight
-  old_upmap : IsPermutation c.old_upmap d.old_upmap
-  old_items : IsPermutation c.old_items d.old_items
-  new_upmap : IsPermutation c.new_upmap d.new_upmap
-  new_items : IsPermutation c.new_items d.new_items
+  pools : PoolsMoved c.pools d.pools
+  crush : IsCrushMoved c.crush d.crush
+  osds : OsdsMoved c.osds d.osds
+  weights : IsPermutation c.weights d.weights
+  explicit : ExceptionsMoved c.explicit d.explicit
+  items : ExceptionsMoved c.items d.items
 
 -- they are within the limits alike
 limits_moved : (c d : RawChange) → AreMoved c d → change_fits d ≡ change_fits c
 unfolding change_fits exceptions_fit
 limits_moved c d m = rw (
   m.base,
-  count_moved 0 1048576 c.old_pools d.old_pools m.old_pools,
-  list_all-moved is_pool_id c.old_pools d.old_pools m.old_pools,
-  crush_limits c.new_crush d.new_crush m.new_crush,
-  count_moved 0 1048576 c.new_pools d.new_pools m.new_pools,
-  list_all-moved pool_fits c.new_pools d.new_pools m.new_pools,
-  count_moved 0 1048576 c.grow_pool d.grow_pool m.grow_pool,
-  list_all-moved growth_fits c.grow_pool d.grow_pool m.grow_pool,
-  count_moved 0 1048576 c.down d.down m.down,
-  list_all-moved is_osd_id c.down d.down m.down,
-  count_moved 0 1048576 c.up d.up m.up,
-  list_all-moved is_osd_id c.up d.up m.up,
-  count_moved 0 1048576 c.weight d.weight m.weight,
-  list_all-moved reweight_fits c.weight d.weight m.weight,
-  count_moved 0 1048576 c.old_upmap d.old_upmap m.old_upmap,
-  list_all-moved pg_fits c.old_upmap d.old_upmap m.old_upmap,
-  count_moved 0 1048576 c.old_items d.old_items m.old_items,
-  list_all-moved pg_fits c.old_items d.old_items m.old_items,
-  count_moved 0 1048576 c.new_upmap d.new_upmap m.new_upmap,
-  list_all-moved (exception_fits is_osd_id) c.new_upmap d.new_upmap m.new_upmap,
-  count_moved 0 1048576 c.new_items d.new_items m.new_items,
-  list_all-moved (exception_fits pair_fits) c.new_items d.new_items m.new_items,
+  count_moved 0 1048576 c.pools.gone d.pools.gone m.pools.gone,
+  list_all-moved is_pool_id c.pools.gone d.pools.gone m.pools.gone,
+  crush_limits c.crush d.crush m.crush,
+  count_moved 0 1048576 c.pools.come d.pools.come m.pools.come,
+  list_all-moved pool_fits c.pools.come d.pools.come m.pools.come,
+  count_moved 0 1048576 c.pools.grow d.pools.grow m.pools.grow,
+  list_all-moved growth_fits c.pools.grow d.pools.grow m.pools.grow,
+  count_moved 0 1048576 c.osds.down d.osds.down m.osds.down,
+  list_all-moved is_osd_id c.osds.down d.osds.down m.osds.down,
+  count_moved 0 1048576 c.osds.up d.osds.up m.osds.up,
+  list_all-moved is_osd_id c.osds.up d.osds.up m.osds.up,
+  count_moved 0 1048576 c.weights d.weights m.weights,
+  list_all-moved reweight_fits c.weights d.weights m.weights,
+  count_moved 0 1048576 c.explicit.gone d.explicit.gone m.explicit.gone,
+  list_all-moved pg_fits c.explicit.gone d.explicit.gone m.explicit.gone,
+  count_moved 0 1048576 c.items.gone d.items.gone m.items.gone,
+  list_all-moved pg_fits c.items.gone d.items.gone m.items.gone,
+  count_moved 0 1048576 c.explicit.come d.explicit.come m.explicit.come,
+  list_all-moved (exception_fits is_osd_id) c.explicit.come d.explicit.come m.explicit.come,
+  count_moved 0 1048576 c.items.come d.items.come m.items.come,
+  list_all-moved (exception_fits pair_fits) c.items.come d.items.come m.items.come,
 ) refl
 
 -- also within those of plain clusters
 plain_moved : (c d : RawChange) → AreMoved c d → change_is_plain d ≡ change_is_plain c
 unfolding change_is_plain
 plain_moved c d m = rw (
-  count_moved 0 131072 c.old_pools d.old_pools m.old_pools,
-  crush_plain c.new_crush d.new_crush m.new_crush,
-  count_moved 0 131072 c.new_pools d.new_pools m.new_pools,
-  list_all-moved pool_is_plain c.new_pools d.new_pools m.new_pools,
-  count_moved 0 131072 c.grow_pool d.grow_pool m.grow_pool,
-  list_all-moved growth_is_plain c.grow_pool d.grow_pool m.grow_pool,
-  count_moved 0 131072 c.down d.down m.down,
-  list_all-moved osd_is_plain c.down d.down m.down,
-  count_moved 0 131072 c.up d.up m.up,
-  list_all-moved osd_is_plain c.up d.up m.up,
-  count_moved 0 131072 c.weight d.weight m.weight,
-  list_all-moved (λ (w : RawReweight). osd_is_plain w.osd) c.weight d.weight m.weight,
-  count_moved 0 131072 c.old_upmap d.old_upmap m.old_upmap,
-  count_moved 0 131072 c.old_items d.old_items m.old_items,
-  count_moved 0 131072 c.new_upmap d.new_upmap m.new_upmap,
-  list_all-moved (exception_is_plain osd_is_plain) c.new_upmap d.new_upmap m.new_upmap,
-  count_moved 0 131072 c.new_items d.new_items m.new_items,
-  list_all-moved (exception_is_plain pair_is_plain) c.new_items d.new_items m.new_items,
+  count_moved 0 131072 c.pools.gone d.pools.gone m.pools.gone,
+  crush_plain c.crush d.crush m.crush,
+  count_moved 0 131072 c.pools.come d.pools.come m.pools.come,
+  list_all-moved pool_is_plain c.pools.come d.pools.come m.pools.come,
+  count_moved 0 131072 c.pools.grow d.pools.grow m.pools.grow,
+  list_all-moved growth_is_plain c.pools.grow d.pools.grow m.pools.grow,
+  count_moved 0 131072 c.osds.down d.osds.down m.osds.down,
+  list_all-moved osd_is_plain c.osds.down d.osds.down m.osds.down,
+  count_moved 0 131072 c.osds.up d.osds.up m.osds.up,
+  list_all-moved osd_is_plain c.osds.up d.osds.up m.osds.up,
+  count_moved 0 131072 c.weights d.weights m.weights,
+  list_all-moved (λ (w : ReweightPart). osd_is_plain w.osd) c.weights d.weights m.weights,
+  count_moved 0 131072 c.explicit.gone d.explicit.gone m.explicit.gone,
+  count_moved 0 131072 c.items.gone d.items.gone m.items.gone,
+  count_moved 0 131072 c.explicit.come d.explicit.come m.explicit.come,
+  list_all-moved (exception_is_plain osd_is_plain) c.explicit.come d.explicit.come m.explicit.come,
+  count_moved 0 131072 c.items.come d.items.come m.items.come,
+  list_all-moved (exception_is_plain pair_is_plain) c.items.come d.items.come m.items.come,
 ) refl
 
 -- the parts of the change that parts within the limits state are those parts
@@ -312,24 +325,32 @@ parts_stated profile r base c limits is =
     let fits = change_fits_each r limits in
     record {
       base = ap (λ n. pos n) is.base_is ∙ natural_back 0 18446744073709551615 r.base fits.base;
-      old_pools = parts_moved nat_abs pos is_pool_id pool_id_back r.old_pools c.old_pools fits.old_pools is.ordered.old_pools.same;
-      new_crush = crush_moved r.new_crush c.new_crush fits.new_crush is.crush;
-      new_pools = parts_moved pool_of pool_part pool_fits pool_back r.new_pools c.new_pools fits.new_pools is.ordered.new_pools.same;
-      grow_pool = parts_moved growth_of growth_part growth_fits growth_back r.grow_pool c.grow_pool fits.grow_pool is.ordered.grow_pool.same;
-      down = parts_moved nat_abs pos is_osd_id osd_back r.down c.down fits.down is.ordered.down.same;
-      up = parts_moved nat_abs pos is_osd_id osd_back r.up c.up fits.up is.ordered.up.same;
-      weight = parts_moved reweight_within reweight_part reweight_fits reweight_back r.weight c.weight fits.weight is.ordered.weight.same;
-      old_upmap = parts_moved pg_of pg_part pg_fits group_back r.old_upmap c.old_upmap fits.old_upmap is.ordered.old_upmap.same;
-      old_items = parts_moved pg_of pg_part pg_fits group_back r.old_items c.old_items fits.old_items is.ordered.old_items.same;
-      new_upmap = parts_moved (exception_of nat_abs) (exception_part pos) (exception_fits is_osd_id) (exception_back nat_abs pos is_osd_id osd_back) r.new_upmap c.new_upmap (and_parts _ (list_all (exception_fits is_osd_id) r.new_upmap) fits.new_upmap).1 is.ordered.new_upmap.same;
-      new_items = parts_moved (exception_of pair_of) (exception_part pair_part) (exception_fits pair_fits) (exception_back pair_of pair_part pair_fits pair_back) r.new_items c.new_items (and_parts _ (list_all (exception_fits pair_fits) r.new_items) fits.new_items).1 is.ordered.new_items.same;
+      pools = record {
+        gone = parts_moved nat_abs pos is_pool_id pool_id_back r.pools.gone c.pools.gone fits.pools.gone is.ordered.pools.gone.same;
+        come = parts_moved pool_of pool_part pool_fits pool_back r.pools.come c.pools.come fits.pools.come is.ordered.pools.come.same;
+        grow = parts_moved growth_of growth_part growth_fits growth_back r.pools.grow c.pools.grow fits.pools.grow is.ordered.pools.grow.same;
+      };
+      crush = crush_moved r.crush c.crush fits.crush is.crush;
+      osds = record {
+        down = parts_moved nat_abs pos is_osd_id osd_back r.osds.down c.osds.down fits.osds.down is.ordered.osds.down.same;
+        up = parts_moved nat_abs pos is_osd_id osd_back r.osds.up c.osds.up fits.osds.up is.ordered.osds.up.same;
+      };
+      weights = parts_moved reweight_within reweight_part reweight_fits reweight_back r.weights c.weights fits.weights is.ordered.weights.same;
+      explicit = record {
+        gone = parts_moved pg_of pg_part pg_fits group_back r.explicit.gone c.explicit.gone fits.explicit.gone is.ordered.explicit.gone.same;
+        come = parts_moved (exception_of nat_abs) (exception_part pos) (exception_fits is_osd_id) (exception_back nat_abs pos is_osd_id osd_back) r.explicit.come c.explicit.come (and_parts _ (list_all (exception_fits is_osd_id) r.explicit.come) fits.explicit.come).1 is.ordered.explicit.come.same;
+      };
+      items = record {
+        gone = parts_moved pg_of pg_part pg_fits group_back r.items.gone c.items.gone fits.items.gone is.ordered.items.gone.same;
+        come = parts_moved (exception_of pair_of) (exception_part pair_part) (exception_fits pair_fits) (exception_back pair_of pair_part pair_fits pair_back) r.items.come c.items.come (and_parts _ (list_all (exception_fits pair_fits) r.items.come) fits.items.come).1 is.ordered.items.come.same;
+      };
     }
 
 -- ---- the text
 
 -- what has no fault is within the limits
 faultless_fits : (profile : Profile) (r : RawChange) → change_fault_in profile r ≡ None → ((is_stock profile || change_is_plain r) ≡ true) × (change_fits r ≡ true)
-faultless_fits profile r h = by_tests (is_stock profile || change_is_plain r) (change_fits r) (option_or (new_crush_fault r.new_crush) (refused_unless (are_even r) BadPool)) h
+faultless_fits profile r h = by_tests (is_stock profile || change_is_plain r) (change_fits r) (option_or (new_crush_fault r.crush) (refused_unless (are_even r.pools) BadPool)) h
   where
     by_tests : (plain fits : Bool) (other : Option Refusal) → (if plain then (if not fits then Some BadLimit else other) else Some BadLimit) ≡ None → (plain ≡ true) × (fits ≡ true)
     by_tests true true other h = (refl, refl)
@@ -337,20 +358,20 @@ faultless_fits profile r h = by_tests (is_stock profile || change_is_plain r) (c
     by_tests false fits other h = absurd (cc)
 
 -- what a profile allows of a change has kinds of it
-kinds_allowed : (profile : Profile) (x r : RawChange) → kept_or (change_allowed profile x) ≡ Ok r → brings_kinds profile r.new_crush ≡ true
-kinds_allowed profile x r h = by_kinds (brings_kinds profile x.new_crush) refl h
+kinds_allowed : (profile : Profile) (x r : RawChange) → kept_or (change_allowed profile x) ≡ Ok r → brings_kinds profile r.crush ≡ true
+kinds_allowed profile x r h = by_kinds (brings_kinds profile x.crush) refl h
   where
-    by_kinds : (b : Bool) → brings_kinds profile x.new_crush ≡ b → kept_or (if b then Some x else None) ≡ Ok r → brings_kinds profile r.new_crush ≡ true
-    by_kinds true kinds e = let same : x ≡ r = cc in subst (λ y. brings_kinds profile y.new_crush ≡ true) same kinds
+    by_kinds : (b : Bool) → brings_kinds profile x.crush ≡ b → kept_or (if b then Some x else None) ≡ Ok r → brings_kinds profile r.crush ≡ true
+    by_kinds true kinds e = let same : x ≡ r = cc in subst (λ y. brings_kinds profile y.crush ≡ true) same kinds
     by_kinds false kinds e = absurd (cc)
 
 -- so has what is kept of a change, where there is one
-kinds_of_part : (profile : Profile) (o : Option RawChange) (r : RawChange) → kept_or (o >>= change_allowed profile) ≡ Ok r → brings_kinds profile r.new_crush ≡ true
+kinds_of_part : (profile : Profile) (o : Option RawChange) (r : RawChange) → kept_or (o >>= change_allowed profile) ≡ Ok r → brings_kinds profile r.crush ≡ true
 kinds_of_part profile None r h = absurd (cc)
 kinds_of_part profile (Some x) r h = kinds_allowed profile x r h
 
 -- so has what is kept of the change that a value states, where there is one
-kinds_of_value : (profile : Profile) (o : Option Data) (r : RawChange) → option_map_or (λ d. kept_or (stated_change d >>= change_allowed profile)) o (Err BadJson) ≡ Ok r → brings_kinds profile r.new_crush ≡ true
+kinds_of_value : (profile : Profile) (o : Option Data) (r : RawChange) → option_map_or (λ d. kept_or (stated_change d >>= change_allowed profile)) o (Err BadJson) ≡ Ok r → brings_kinds profile r.crush ≡ true
 kinds_of_value profile None r h = absurd (cc)
 kinds_of_value profile (Some d) r h = kinds_of_part profile (stated_change d) r h
 
@@ -365,12 +386,12 @@ unfolding change_is_plain
 plain_at_zero base c = refl
 
 -- a change that is stated without a fault is one that a text may state
-stated_fits : (profile : Profile) (r : RawChange) (base : ℕ) (c : ChangeParts) → change_fault_in profile r ≡ None → brings_kinds profile r.new_crush ≡ true → IsChangeStated profile r base c → FitsProfile profile c
+stated_fits : (profile : Profile) (r : RawChange) (base : ℕ) (c : ChangeParts) → change_fault_in profile r ≡ None → brings_kinds profile r.crush ≡ true → IsChangeStated profile r base c → FitsProfile profile c
 unfolding fits_text
 stated_fits profile r base c faultless kinds is =
     let within = faultless_fits profile r faultless in
     let moved = parts_stated profile r base c within.1 is in
-    let own_kinds = crush_kinds profile r.new_crush (option_map crush_parts c.new_crush) moved.new_crush ∙ kinds in
+    let own_kinds = crush_kinds profile r.crush (option_map crush_parts c.crush) moved.crush ∙ kinds in
     let own_plain = ap (λ b. is_stock profile || b) (plain_at_zero base c ∙ plain_moved r (change_parts base c) moved) ∙ within.0 in
     let own_limits = fits_at_zero base c (limits_moved r (change_parts base c) moved ∙ within.1) in
     record { profile_is = is.ordered.profile; fits = rw (own_kinds, own_plain, own_limits) refl }

@@ -16,7 +16,9 @@ use Rattle.osdmap.specs.Changes.{change_fault, apply, with_up, after, IsLawful}
 -- the map after what goes down and what comes up the other way round
 abbrev pub turned_round : ClusterMap → Step → ClusterMap
 turned_round m step =
-    record m { presences = fold (with_up false) (fold (with_up true) m.presences step.change.up) step.change.down }
+    record m {
+      presences = fold (with_up false) (fold (with_up true) m.presences step.change.osds.up) step.change.osds.down;
+    }
 
 -- an OSD is up after a change, and down after its parts the other way round
 pub record EndsUp (m : ClusterMap) (step : Step) (osd : ℕ) : Type 0 where
@@ -26,7 +28,8 @@ pub record EndsUp (m : ClusterMap) (step : Step) (osd : ℕ) : Type 0 where
 -- so is an OSD that goes down and comes up
 abbrev pub UpAfterDown : Type 0
 UpAfterDown = (m : ClusterMap) (step : Step) (osd : ℕ) → osd_exists m osd ≡ true →
-    has_key (λ n. n) step.change.down osd ≡ true → has_key (λ n. n) step.change.up osd ≡ true → EndsUp m step osd
+    has_key (λ n. n) step.change.osds.down osd ≡ true → has_key (λ n. n) step.change.osds.up osd ≡ true →
+    EndsUp m step osd
 
 -- ---- maps and their own parts
 

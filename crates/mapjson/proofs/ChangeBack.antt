@@ -15,13 +15,13 @@ use Rattle.mapparts.specs.declared.parts.GrowPart.{GrowPart}
 use Rattle.mapparts.specs.declared.parts.CrushParts.{CrushParts}
 use Rattle.mapparts.specs.declared.pg_parts.PgParts.{PgParts}
 use Rattle.maptypes.specs.declared.change.ChangeParts.{ChangeParts}
-use Rattle.partjson.specs.declared.change.RawChange.{RawChange}
-use Rattle.partjson.specs.declared.change.RawReweight.{RawReweight}
+use Rattle.mapparts.specs.declared.change.RawChange.{RawChange}
+use Rattle.mapparts.specs.declared.change.ReweightPart.{ReweightPart}
 use Rattle.refusal.specs.declared.refused.Refusal.TheVariants.{BadJson, BadField}
 use Rattle.jsonstream.specs.Json.{whole_number, stated_by}
 use Rattle.jsonstream.proofs.Texts.{json_of_some}
-use Rattle.partjson.specs.StatedMaps.{stated_bucket, stated_rule, stated_pool, stated_pg, stated_pair}
-use Rattle.partjson.specs.StatedChanges.{reweight_of, stated_growth, crush_of, stated_change}
+use Rattle.partjson.specs.StatedMaps.{stated_bucket, stated_rule, stated_pool, stated_growth, stated_pg, stated_pair}
+use Rattle.partjson.specs.StatedChanges.{reweight_of, crush_of, stated_change}
 use Rattle.mapjson.specs.Written.{number_data, list_data, members, object_of, bucket_data, rule_data, pool_data, IsNamed, group_data, pair_data, exception_data}
 use Rattle.mapjson.specs.PartsOfChange.{change_parts}
 use Rattle.mapjson.specs.WrittenChanges.{reweight_data, growth_data, crush_data, crush_member, first_members, last_members, change_data, HasNamed, written_change}
@@ -54,7 +54,7 @@ members_flat [] flat = omega arith
 members_flat (m ∷ ms) flat = omega (arith, flat.0, members_flat ms flat.1)
 
 -- a reweight nests one level
-reweight_flat : (w : RawReweight) → depth (reweight_data w) ≤ 1
+reweight_flat : (w : ReweightPart) → depth (reweight_data w) ≤ 1
 reweight_flat w = omega arith
 
 -- a growth nests one level
@@ -77,11 +77,11 @@ crush_member_flat (Some k) = (crush_flat k, tt)
 
 -- the members before it
 first_flat : (c : RawChange) → AreFlat (first_members c)
-first_flat c = (omega (arith, number_flat c.base), (list_within 0 number_data (omega arith) number_flat c.down, (list_within 1 growth_data (omega arith) growth_flat c.grow_pool, tt)))
+first_flat c = (omega (arith, number_flat c.base), (list_within 0 number_data (omega arith) number_flat c.osds.down, (list_within 1 growth_data (omega arith) growth_flat c.pools.grow, tt)))
 
 -- and behind it
 last_flat : (c : RawChange) → AreFlat (last_members c)
-last_flat c = (list_within 3 (exception_data pair_data) (omega arith) (exception_flat 1 pair_data pair_flat) c.new_items, (list_within 1 pool_data (omega arith) pool_flat c.new_pools, (list_within 2 (exception_data number_data) (omega arith) (exception_flat 0 number_data number_flat) c.new_upmap, (list_within 0 group_data (omega arith) group_flat c.old_items, (list_within 0 number_data (omega arith) number_flat c.old_pools, (list_within 0 group_data (omega arith) group_flat c.old_upmap, (list_within 0 number_data (omega arith) number_flat c.up, (list_within 1 reweight_data (omega arith) reweight_flat c.weight, tt))))))))
+last_flat c = (list_within 3 (exception_data pair_data) (omega arith) (exception_flat 1 pair_data pair_flat) c.items.come, (list_within 1 pool_data (omega arith) pool_flat c.pools.come, (list_within 2 (exception_data number_data) (omega arith) (exception_flat 0 number_data number_flat) c.explicit.come, (list_within 0 group_data (omega arith) group_flat c.items.gone, (list_within 0 number_data (omega arith) number_flat c.pools.gone, (list_within 0 group_data (omega arith) group_flat c.explicit.gone, (list_within 0 number_data (omega arith) number_flat c.osds.up, (list_within 1 reweight_data (omega arith) reweight_flat c.weights, tt))))))))
 
 -- a change nests six levels at most, with a CRUSH map or without
 flat_with : (c : RawChange) (crush : Option CrushParts) → depth (with_member_of c crush) ≤ 6
@@ -93,12 +93,12 @@ flat_with c crush =
 -- so its text reads back
 pub change_flat : (c : RawChange) → depth (change_data c) ≤ 6
 unfolding change_data
-change_flat c = flat_with c c.new_crush
+change_flat c = flat_with c c.crush
 
 -- ---- read back
 
 -- a reweight reads back as itself
-reweight_back : (w : RawReweight) → reweight_of (reweight_data w) ≡ Some w
+reweight_back : (w : ReweightPart) → reweight_of (reweight_data w) ≡ Some w
 unfolding reweight_of
 reweight_back w = rw (number_back w.osd, number_back w.weight)
 
@@ -113,40 +113,40 @@ unfolding crush_of crush_data
 crush_back k = rw (list_back stated_bucket bucket_data bucket_back k.buckets, list_back stated_rule rule_data rule_back k.rules)
 
 -- a change of named groups reads back as itself, with a CRUSH map or without
-back_with : (c : RawChange) (crush : Option CrushParts) → HasNamed c → stated_change (with_member_of c crush) ≡ Some (record c { new_crush = crush })
+back_with : (c : RawChange) (crush : Option CrushParts) → HasNamed c → stated_change (with_member_of c crush) ≡ Some (record c { crush = crush })
 unfolding stated_change
 back_with c None named = rw (
   number_back c.base,
-  list_back whole_number number_data number_back c.down,
-  list_back stated_growth growth_data growth_back c.grow_pool,
-  exceptions_back stated_pair pair_data pair_back c.new_items named.new_items,
-  list_back stated_pool pool_data pool_back c.new_pools,
-  exceptions_back whole_number number_data number_back c.new_upmap named.new_upmap,
-  entries_back stated_pg group_data IsNamed (λ g is. is) c.old_items named.old_items,
-  list_back whole_number number_data number_back c.old_pools,
-  entries_back stated_pg group_data IsNamed (λ g is. is) c.old_upmap named.old_upmap,
-  list_back whole_number number_data number_back c.up,
-  list_back reweight_of reweight_data reweight_back c.weight,
+  list_back whole_number number_data number_back c.osds.down,
+  list_back stated_growth growth_data growth_back c.pools.grow,
+  exceptions_back stated_pair pair_data pair_back c.items.come named.items.come,
+  list_back stated_pool pool_data pool_back c.pools.come,
+  exceptions_back whole_number number_data number_back c.explicit.come named.explicit.come,
+  entries_back stated_pg group_data IsNamed (λ g is. is) c.items.gone named.items.gone,
+  list_back whole_number number_data number_back c.pools.gone,
+  entries_back stated_pg group_data IsNamed (λ g is. is) c.explicit.gone named.explicit.gone,
+  list_back whole_number number_data number_back c.osds.up,
+  list_back reweight_of reweight_data reweight_back c.weights,
 )
 back_with c (Some k) named = rw (
   number_back c.base,
-  list_back whole_number number_data number_back c.down,
-  list_back stated_growth growth_data growth_back c.grow_pool,
+  list_back whole_number number_data number_back c.osds.down,
+  list_back stated_growth growth_data growth_back c.pools.grow,
   crush_back k,
-  exceptions_back stated_pair pair_data pair_back c.new_items named.new_items,
-  list_back stated_pool pool_data pool_back c.new_pools,
-  exceptions_back whole_number number_data number_back c.new_upmap named.new_upmap,
-  entries_back stated_pg group_data IsNamed (λ g is. is) c.old_items named.old_items,
-  list_back whole_number number_data number_back c.old_pools,
-  entries_back stated_pg group_data IsNamed (λ g is. is) c.old_upmap named.old_upmap,
-  list_back whole_number number_data number_back c.up,
-  list_back reweight_of reweight_data reweight_back c.weight,
+  exceptions_back stated_pair pair_data pair_back c.items.come named.items.come,
+  list_back stated_pool pool_data pool_back c.pools.come,
+  exceptions_back whole_number number_data number_back c.explicit.come named.explicit.come,
+  entries_back stated_pg group_data IsNamed (λ g is. is) c.items.gone named.items.gone,
+  list_back whole_number number_data number_back c.pools.gone,
+  entries_back stated_pg group_data IsNamed (λ g is. is) c.explicit.gone named.explicit.gone,
+  list_back whole_number number_data number_back c.osds.up,
+  list_back reweight_of reweight_data reweight_back c.weights,
 )
 
 -- what is written of the parts of a change states them
 pub change_back : (c : RawChange) → HasNamed c → stated_change (change_data c) ≡ Some c
 unfolding change_data
-change_back c named = back_with c c.new_crush named
+change_back c named = back_with c c.crush named
 
 -- ---- its keys
 
@@ -156,26 +156,26 @@ order_with c None = refl
 order_with c (Some k) = refl
 
 -- so a change is read as itself where its members are
-pub change_read : (c : RawChange) → AreReadBack (first_members c) → AreReadBack (crush_member c.new_crush) → AreReadBack (last_members c) → IsReadBack (change_data c)
+pub change_read : (c : RawChange) → AreReadBack (first_members c) → AreReadBack (crush_member c.crush) → AreReadBack (last_members c) → IsReadBack (change_data c)
 unfolding change_data
 change_read c first crush last =
-    object_read (first_members c ++ (crush_member c.new_crush ++ last_members c)) (both_read (first_members c) _ first (both_read (crush_member c.new_crush) (last_members c) crush last)) (order_with c c.new_crush)
+    object_read (first_members c ++ (crush_member c.crush ++ last_members c)) (both_read (first_members c) _ first (both_read (crush_member c.crush) (last_members c) crush last)) (order_with c c.crush)
 
 -- ---- its tokens
 
 -- the tokens of a change are those of its members
 pub change_tokens : (c : RawChange) (ts : List Token)
-    → ((((ts ++ begin_object ∷ []) ++ member_tokens (first_members c)) ++ member_tokens (crush_member c.new_crush)) ++ member_tokens (last_members c)) ++ end_object ∷ []
+    → ((((ts ++ begin_object ∷ []) ++ member_tokens (first_members c)) ++ member_tokens (crush_member c.crush)) ++ member_tokens (last_members c)) ++ end_object ∷ []
     ≡ ts ++ tokens_of (change_data c)
 unfolding change_data
 change_tokens c ts =
     let front = ts ++ begin_object ∷ [] in
     let first = member_tokens (first_members c) in
-    let crush = member_tokens (crush_member c.new_crush) in
+    let crush = member_tokens (crush_member c.crush) in
     let last = member_tokens (last_members c) in
-    let rest = crush_member c.new_crush ++ last_members c in
+    let rest = crush_member c.crush ++ last_members c in
     let all : member_tokens (first_members c ++ rest) ≡ first ++ (crush ++ last) =
-    member_tokens-append (first_members c) rest ∙ ap (λ us. first ++ us) (member_tokens-append (crush_member c.new_crush) (last_members c)) in
+    member_tokens-append (first_members c) rest ∙ ap (λ us. first ++ us) (member_tokens-append (crush_member c.crush) (last_members c)) in
     ap (λ us. us ++ end_object ∷ []) (append_assoc (front ++ first) crush last ∙ append_assoc front first (crush ++ last) ∙ ap (λ us. front ++ us) (sym all))
     ∙ enclosed ts (member_tokens (first_members c ++ rest)) begin_object end_object
     ∙ ap (λ us. ts ++ begin_object ∷ us) (sym (members_tokens-all (first_members c ++ rest)))

@@ -4,18 +4,21 @@ use Rattle.std.specs.Prelude.{option_map}
 use Rattle.std.specs.List.{range_with_len, All}
 use Rattle.refusal.specs.declared.refused.Refusal.{Refusal}
 use Rattle.mapparts.specs.declared.parts.MapParts.{MapParts}
+use Rattle.mapparts.specs.declared.change.ExceptionChanges.{ExceptionChanges}
 use Rattle.maptypes.specs.declared.change.ChangeParts.{ChangeParts}
+use Rattle.maptypes.specs.declared.exception.Exception.{Exception}
+use Rattle.maptypes.specs.declared.pg.Pg.{Pg}
 use Rattle.maptypes.specs.CrushMaps.{CrushFacts}
 use Rattle.maptypes.specs.Values.{bucket_of, rule_of, pool_of, growth_of, pg_of, pair_of, exception_of}
 use Rattle.osdmap.specs.Maps.{ClusterMap, HoldsTogether}
 use Rattle.osdmap.specs.Stated.{presence_in, weight_in}
 use Rattle.osdmap.specs.PartsOf.{bucket_part, rule_part, pool_part, pg_part, pair_part, exception_part, parts_of}
 use Rattle.jsonstream.specs.Json.{stated_by}
-use Rattle.partjson.specs.declared.change.RawChange.{RawChange}
+use Rattle.mapparts.specs.declared.change.RawChange.{RawChange}
 use Rattle.partjson.specs.StatedMaps.{stated_map}
 use Rattle.partjson.specs.StatedChanges.{stated_change}
 use Rattle.mapjson.specs.ChangeTexts.{reweight_within}
-use Rattle.mapjson.specs.PartsOfChange.{growth_part, reweight_part, crush_parts, change_parts}
+use Rattle.mapjson.specs.PartsOfChange.{growth_part, reweight_part, crush_parts, exceptions_part, change_parts}
 use Rattle.mapjson.specs.Written.{written}
 use Rattle.mapjson.specs.WrittenChanges.{written_change}
 use Rattle.mapjson.proofs.OwnValues.{map_own, bucket_own, rule_own, pool_own, number_own, pair_own, exception_own}
@@ -118,32 +121,31 @@ module _ (base : ℕ) (c d : ChangeParts) (profile : c.profile ≡ d.profile) (s
   numbers_same : (xs ys : List ℕ) → map pos xs ≡ map pos ys → xs ≡ ys
   numbers_same = one_list nat_abs pos number_own
 
+  exceptions_same : {E P : Type 0} (of : P → E) (part : E → P) → ((e : E) → of (part e) ≡ e) → (x y : ExceptionChanges Pg (Exception E)) → exceptions_part part x ≡ exceptions_part part y → x ≡ y
+  exceptions_same of part own x y e =
+      let gone = one_list pg_of pg_part (λ g i. g) x.gone y.gone (ap (λ z. z.gone) e) in
+      let come = one_list (exception_of of) (exception_part part) (exception_own of part own) x.come y.come (ap (λ z. z.come) e) in
+      λ i. record { gone = gone i; come = come i }
+
   change_of_parts : c ≡ d
   change_of_parts =
-      let old_pools = numbers_same c.old_pools d.old_pools (ap (λ (r : RawChange). r.old_pools) same) in
-      let new_crush = one_crush c.new_crush d.new_crush (ap (λ (r : RawChange). r.new_crush) same) in
-      let new_pools = one_list pool_of pool_part pool_own c.new_pools d.new_pools (ap (λ (r : RawChange). r.new_pools) same) in
-      let grow_pool = one_list growth_of growth_part (λ g i. g) c.grow_pool d.grow_pool (ap (λ (r : RawChange). r.grow_pool) same) in
-      let down = numbers_same c.down d.down (ap (λ (r : RawChange). r.down) same) in
-      let ups = numbers_same c.up d.up (ap (λ (r : RawChange). r.up) same) in
-      let weight = one_list reweight_within reweight_part (λ w i. w) c.weight d.weight (ap (λ (r : RawChange). r.weight) same) in
-      let old_upmap = one_list pg_of pg_part (λ g i. g) c.old_upmap d.old_upmap (ap (λ (r : RawChange). r.old_upmap) same) in
-      let old_items = one_list pg_of pg_part (λ g i. g) c.old_items d.old_items (ap (λ (r : RawChange). r.old_items) same) in
-      let new_upmap = one_list (exception_of nat_abs) (exception_part pos) (exception_own nat_abs pos number_own) c.new_upmap d.new_upmap (ap (λ (r : RawChange). r.new_upmap) same) in
-      let new_items = one_list (exception_of pair_of) (exception_part pair_part) (exception_own pair_of pair_part pair_own) c.new_items d.new_items (ap (λ (r : RawChange). r.new_items) same) in
+      let gone = numbers_same c.pools.gone d.pools.gone (ap (λ (r : RawChange). r.pools.gone) same) in
+      let come = one_list pool_of pool_part pool_own c.pools.come d.pools.come (ap (λ (r : RawChange). r.pools.come) same) in
+      let grow = one_list growth_of growth_part (λ g i. g) c.pools.grow d.pools.grow (ap (λ (r : RawChange). r.pools.grow) same) in
+      let crush = one_crush c.crush d.crush (ap (λ (r : RawChange). r.crush) same) in
+      let down = numbers_same c.osds.down d.osds.down (ap (λ (r : RawChange). r.osds.down) same) in
+      let ups = numbers_same c.osds.up d.osds.up (ap (λ (r : RawChange). r.osds.up) same) in
+      let weights = one_list reweight_within reweight_part (λ w i. w) c.weights d.weights (ap (λ (r : RawChange). r.weights) same) in
+      let explicit = exceptions_same nat_abs pos number_own c.explicit d.explicit (ap (λ (r : RawChange). r.explicit) same) in
+      let items = exceptions_same pair_of pair_part pair_own c.items d.items (ap (λ (r : RawChange). r.items) same) in
       λ i. record {
         profile = profile i;
-        old_pools = old_pools i;
-        new_crush = new_crush i;
-        new_pools = new_pools i;
-        grow_pool = grow_pool i;
-        down = down i;
-        up = ups i;
-        weight = weight i;
-        old_upmap = old_upmap i;
-        old_items = old_items i;
-        new_upmap = new_upmap i;
-        new_items = new_items i;
+        pools = record { gone = gone i; come = come i; grow = grow i };
+        crush = crush i;
+        osds = record { down = down i; up = ups i };
+        weights = weights i;
+        explicit = explicit i;
+        items = items i;
       }
 
 -- changes of one profile with one base and one text are one

@@ -9,11 +9,11 @@ use Rattle.mapparts.specs.declared.pg_parts.PgParts.{PgParts}
 use Rattle.mapparts.specs.Parts.{is_osd_id, is_between, pair_fits, bucket_fits, rule_fits, pool_fits, growth_fits, crush_fits}
 use Rattle.mapparts.proofs.Within.{growth_fits_each}
 use Rattle.maptypes.specs.Values.{pg_of}
-use Rattle.partjson.specs.declared.change.RawChange.{RawChange}
-use Rattle.partjson.specs.declared.change.RawReweight.{RawReweight}
+use Rattle.mapparts.specs.declared.change.RawChange.{RawChange}
+use Rattle.mapparts.specs.declared.change.ReweightPart.{ReweightPart}
 use Rattle.keylist.proofs.Each.{all_so}
 use Rattle.mapjson.specs.Written.{number_data, members, bucket_data, rule_data, pool_data, group_data, pair_data}
-use Rattle.mapjson.specs.ChangeTexts.{is_pool_id, reweight_fits, change_fits}
+use Rattle.mapparts.specs.Changes.{is_pool_id, reweight_fits, change_fits}
 use Rattle.mapjson.specs.WrittenChanges.{reweight_data, growth_data, crush_data, last_members, change_data}
 use Rattle.mapjson.proofs.Readable.{IsReadable, MembersReadable}
 use Rattle.mapjson.proofs.ReadableMaps.{number_between, entries_within, bucket_readable, rule_readable, pool_readable, group_ascii, osd_id_readable, pair_readable, exceptions_readable}
@@ -26,7 +26,7 @@ unfolding is_pool_id
 pool_id_readable z h = number_between (pos 1) (pos 65535) z tt (omega arith) h
 
 -- a reweight within its limits is readable
-reweight_readable : (w : RawReweight) → reweight_fits w ≡ true → IsReadable (reweight_data w)
+reweight_readable : (w : ReweightPart) → reweight_fits w ≡ true → IsReadable (reweight_data w)
 unfolding reweight_fits
 reweight_readable w h =
     let each = and_parts (is_osd_id w.osd) (is_between (pos 0) (pos 4294967295) w.weight) h in
@@ -65,26 +65,26 @@ crush_readable k h =
 last_readable : (c : RawChange) → ChangeFits c → MembersReadable (members (last_members c))
 last_readable c fits = (
   refl,
-  exceptions_readable pair_fits pair_data pair_readable c.new_items fits.new_items,
+  exceptions_readable pair_fits pair_data pair_readable c.items.come fits.items.come,
   (
     refl,
-    entries_within pool_fits pool_data pool_readable c.new_pools fits.new_pools,
+    entries_within pool_fits pool_data pool_readable c.pools.come fits.pools.come,
     (
       refl,
-      exceptions_readable is_osd_id number_data osd_id_readable c.new_upmap fits.new_upmap,
+      exceptions_readable is_osd_id number_data osd_id_readable c.explicit.come fits.explicit.come,
       (
         refl,
-        entries_within (λ g. true) group_data group_readable c.old_items (all_so (λ g. true) (λ g. refl) c.old_items),
+        entries_within (λ g. true) group_data group_readable c.items.gone (all_so (λ g. true) (λ g. refl) c.items.gone),
         (
           refl,
-          entries_within is_pool_id number_data pool_id_readable c.old_pools fits.old_pools,
+          entries_within is_pool_id number_data pool_id_readable c.pools.gone fits.pools.gone,
           (
             refl,
-            entries_within (λ g. true) group_data group_readable c.old_upmap (all_so (λ g. true) (λ g. refl) c.old_upmap),
+            entries_within (λ g. true) group_data group_readable c.explicit.gone (all_so (λ g. true) (λ g. refl) c.explicit.gone),
             (
               refl,
-              entries_within is_osd_id number_data osd_id_readable c.up fits.up,
-              (refl, entries_within reweight_fits reweight_data reweight_readable c.weight fits.weight, tt),
+              entries_within is_osd_id number_data osd_id_readable c.osds.up fits.osds.up,
+              (refl, entries_within reweight_fits reweight_data reweight_readable c.weights fits.weights, tt),
             ),
           ),
         ),
@@ -101,8 +101,8 @@ readable_with c fits None fit = (
     number_between (pos 0) (pos 18446744073709551615) c.base tt (omega arith) fits.base,
     (
       refl,
-      entries_within is_osd_id number_data osd_id_readable c.down fits.down,
-      (refl, entries_within growth_fits growth_data growth_readable c.grow_pool fits.grow_pool, last_readable c fits),
+      entries_within is_osd_id number_data osd_id_readable c.osds.down fits.osds.down,
+      (refl, entries_within growth_fits growth_data growth_readable c.pools.grow fits.pools.grow, last_readable c fits),
     ),
   ),
   refl,
@@ -113,10 +113,10 @@ readable_with c fits (Some k) fit = (
     number_between (pos 0) (pos 18446744073709551615) c.base tt (omega arith) fits.base,
     (
       refl,
-      entries_within is_osd_id number_data osd_id_readable c.down fits.down,
+      entries_within is_osd_id number_data osd_id_readable c.osds.down fits.osds.down,
       (
         refl,
-        entries_within growth_fits growth_data growth_readable c.grow_pool fits.grow_pool,
+        entries_within growth_fits growth_data growth_readable c.pools.grow fits.pools.grow,
         (refl, crush_readable k fit, last_readable c fits),
       ),
     ),
@@ -127,4 +127,4 @@ readable_with c fits (Some k) fit = (
 -- what is written of a change within its limits can be read
 pub change_readable : (c : RawChange) → change_fits c ≡ true → IsReadable (change_data c)
 unfolding change_data
-change_readable c h = let fits = change_fits_each c h in readable_with c fits c.new_crush fits.new_crush
+change_readable c h = let fits = change_fits_each c h in readable_with c fits c.crush fits.crush

@@ -5,18 +5,21 @@ use Rattle.serde_json.specs.Data.{Data, Members, put}
 use Rattle.serde_json.specs.Written.{compact_text}
 use Rattle.mapparts.specs.declared.parts.GrowPart.{GrowPart}
 use Rattle.mapparts.specs.declared.parts.CrushParts.{CrushParts}
+use Rattle.mapparts.specs.declared.parts.ExceptionPart.{ExceptionPart}
+use Rattle.mapparts.specs.declared.pg_parts.PgParts.{PgParts}
+use Rattle.mapparts.specs.declared.change.ExceptionChanges.{ExceptionChanges}
 use Rattle.maptypes.specs.declared.change.ChangeParts.{ChangeParts}
-use Rattle.partjson.specs.declared.change.RawChange.{RawChange}
-use Rattle.partjson.specs.declared.change.RawReweight.{RawReweight}
+use Rattle.mapparts.specs.declared.change.RawChange.{RawChange}
+use Rattle.mapparts.specs.declared.change.ReweightPart.{ReweightPart}
 use Rattle.mapparts.specs.declared.profile.Profile.{Profile}
 use Rattle.mapparts.specs.Profiles.{is_stock}
 use Rattle.partjson.specs.Profiles.{brings_kinds}
-use Rattle.mapjson.specs.ChangeTexts.{change_fits, change_is_plain}
+use Rattle.mapparts.specs.Changes.{change_fits, change_is_plain}
 use Rattle.mapjson.specs.PartsOfChange.{crush_parts, change_parts}
 use Rattle.mapjson.specs.Written.{number_data, list_data, object_of, bucket_data, rule_data, pool_data, IsNamed, AreNamed, group_data, pair_data, exception_data}
 
 -- an OSD and its new reweight: [osd, reweight]
-abbrev pub reweight_data : RawReweight → Data
+abbrev pub reweight_data : ReweightPart → Data
 reweight_data w = list_data number_data (w.osd ∷ w.weight ∷ [])
 
 -- a pool and its new numbers of groups: [pool, pg_num, pgp_num]
@@ -43,31 +46,34 @@ with_crush (Some k) ms = put (codes "new_crush") (crush_data k) ms
 abbrev pub first_members : RawChange → List (List ℕ × Data)
 first_members c =
     (codes "base", number_data c.base)
-    ∷ (codes "down", list_data number_data c.down)
-    ∷ (codes "grow_pool", list_data growth_data c.grow_pool)
+    ∷ (codes "down", list_data number_data c.osds.down)
+    ∷ (codes "grow_pool", list_data growth_data c.pools.grow)
     ∷ []
 
 abbrev pub last_members : RawChange → List (List ℕ × Data)
 last_members c =
-    (codes "new_items", list_data (exception_data pair_data) c.new_items)
-    ∷ (codes "new_pools", list_data pool_data c.new_pools)
-    ∷ (codes "new_upmap", list_data (exception_data number_data) c.new_upmap)
-    ∷ (codes "old_items", list_data group_data c.old_items)
-    ∷ (codes "old_pools", list_data number_data c.old_pools)
-    ∷ (codes "old_upmap", list_data group_data c.old_upmap)
-    ∷ (codes "up", list_data number_data c.up)
-    ∷ (codes "weight", list_data reweight_data c.weight)
+    (codes "new_items", list_data (exception_data pair_data) c.items.come)
+    ∷ (codes "new_pools", list_data pool_data c.pools.come)
+    ∷ (codes "new_upmap", list_data (exception_data number_data) c.explicit.come)
+    ∷ (codes "old_items", list_data group_data c.items.gone)
+    ∷ (codes "old_pools", list_data number_data c.pools.gone)
+    ∷ (codes "old_upmap", list_data group_data c.explicit.gone)
+    ∷ (codes "up", list_data number_data c.osds.up)
+    ∷ (codes "weight", list_data reweight_data c.weights)
     ∷ []
 
 unfoldable pub change_data : RawChange → Data
-change_data c = object_of (first_members c ++ (crush_member c.new_crush ++ last_members c))
+change_data c = object_of (first_members c ++ (crush_member c.crush ++ last_members c))
 
--- the text of each group of a change states that group
+-- the text of each group whose exceptions of one kind go or come states that group
+pub record HasNamedGroups {P : Type 0} (c : ExceptionChanges PgParts (ExceptionPart P)) : Type 0 where
+  pub gone : All IsNamed c.gone
+  pub come : AreNamed c.come
+
+-- the text of each group of a change does
 pub record HasNamed (c : RawChange) : Type 0 where
-  pub old_upmap : All IsNamed c.old_upmap
-  pub old_items : All IsNamed c.old_items
-  pub new_upmap : AreNamed c.new_upmap
-  pub new_items : AreNamed c.new_items
+  pub explicit : HasNamedGroups c.explicit
+  pub items : HasNamedGroups c.items
 
 -- the text of a change with its base: pools, growths and OSDs by id upwards, groups and exceptions by group upwards
 unfoldable pub written_change : ℕ → ChangeParts → List ℕ
@@ -77,5 +83,5 @@ written_change base c = compact_text (change_data (change_parts base c))
 -- that profile, which has the kinds of all new buckets
 unfoldable pub fits_text : Profile → ChangeParts → Bool
 fits_text profile c =
-    brings_kinds profile (option_map crush_parts c.new_crush)
+    brings_kinds profile (option_map crush_parts c.crush)
     && (is_stock profile || change_is_plain (change_parts 0 c)) && change_fits (change_parts 0 c)

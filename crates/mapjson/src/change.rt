@@ -3,13 +3,11 @@
 ghost use Rattle.refusal.specs.Outcomes.{Makes};
 ghost use Rattle.mapjson.specs.ChangeTexts.{raw_change_fault, change_fault_in, IsChangeOf};
 
-mod limits;
 mod within;
 
-use limits::{change_fits, change_is_plain};
-use mapparts::Profile;
+use mapparts::change_fits::{change_fits, change_is_plain};
+use mapparts::{Profile, RawChange};
 use maptypes::ChangeParts;
-use partjson::RawChange;
 use refusal::Refusal;
 use std::alloc::Global;
 use within::{base_within, crush_within, parts_within};
@@ -41,7 +39,7 @@ fn change_of(
     if !change_fits(change) {
         return Err(Refusal::BadLimit);
     }
-    let new_crush = crush_within(alloc, &change.new_crush)?;
-    let parts = parts_within(alloc, change, new_crush, profile)?;
+    let crush = crush_within(alloc, &change.crush)?;
+    let parts = parts_within(alloc, change, crush, profile)?;
     Ok((base_within(change), parts))
 }

@@ -1,7 +1,7 @@
 //! Maps, changes, and what OSDs carry, as JSON text (RFC 8259).
 //!
 //! - `change`: the change that the stated parts of one stand for, and why there is none
-//! - `change/limits`, `change/within`: the limits of stated parts, and the change of parts within them
+//! - `change/within`: the change of parts within their limits
 //! - `loads`: what OSDs carry, of the parts that a text states
 //! - `written`, `written/value`: what is written of maps and changes, token by token into their text
 //! - `written/forest`, `written/pools`, `written/exceptions`: of forests and rules, of pools and what they grow to, of

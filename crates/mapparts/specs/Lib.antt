@@ -4,3 +4,4 @@ pub mod PgText
 pub mod Parts
 pub mod Plain
 pub mod Profiles
+pub mod Changes

@@ -42,3 +42,11 @@ max_total_groups = limits.MAX_TOTAL_GROUPS
 -- how many exceptions of one kind a map has at most, and how many entries a list of a change
 abbrev pub max_entries : ℕ
 max_entries = limits.MAX_ENTRIES
+
+-- the greatest epoch to which a change applies
+abbrev pub max_base : ℕ
+max_base = nat_abs limits.MAX_BASE
+
+-- the greatest reweight that a change may state
+abbrev pub max_stated_reweight : ℕ
+max_stated_reweight = nat_abs limits.MAX_STATED_REWEIGHT

@@ -2,12 +2,14 @@
 //! limits. The values that such parts stand for are those of `maptypes`.
 //!
 //! - `limits`, `plain`, `profile`: the limits of all maps, those of plain clusters, and which of them hold
-//! - `parts`: the parts
+//! - `parts`, `change`: the parts of maps, and those of changes by families
 //! - `numbers`, `numeral`: numbers between bounds, and numbers that digits write
 //! - `pg_parts`: the parts of a group in its text
-//! - `fits`, `pools`, `exceptions`: whether parts are within the limits
+//! - `fits`, `pools`, `exceptions`, `change_fits`: whether parts are within the limits
 #![tactic(auto)]
 
+pub mod change;
+pub mod change_fits;
 pub mod exceptions;
 pub mod fits;
 pub mod limits;
@@ -19,6 +21,7 @@ pub mod plain;
 pub mod pools;
 pub mod profile;
 
+pub use change::{ExceptionChanges, OsdChanges, PoolChanges, RawChange, ReweightPart};
 pub use exceptions::{EntryPart, exceptions_fit, pg_fits};
 pub use numeral::number;
 pub use parts::{

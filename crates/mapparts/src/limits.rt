@@ -47,3 +47,7 @@ pub const MAX_TOTAL_GROUPS: u128 = 1_048_576;
 pub const MAX_ENTRIES: usize = 1_048_576;
 /// The reweight of an OSD that takes its whole share.
 pub const FULL_WEIGHT: u32 = limits::FULL_WEIGHT;
+/// The greatest epoch to which a change applies.
+pub const MAX_BASE: i128 = u64::MAX as i128;
+/// The greatest reweight that a change may state. One above the whole is refused by the map.
+pub const MAX_STATED_REWEIGHT: i128 = u32::MAX as i128;

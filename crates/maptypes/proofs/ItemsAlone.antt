@@ -22,15 +22,23 @@ sorts_none key ys sorts = sorted_same key [] ys (none_rises key) sorts
 pub ordered_same : (profile : Profile) (items : List (Exception Pair)) (c : ChangeParts) → IsRising key_of items → IsOrdered (items_alone profile items) c → c ≡ items_alone profile items
 ordered_same profile items c rises ordered = λ i. record {
   profile = ordered.profile i;
-  old_pools = sorts_none (λ id. id) c.old_pools ordered.old_pools i;
-  new_crush = ordered.new_crush i;
-  new_pools = sorts_none (λ p. p.id) c.new_pools ordered.new_pools i;
-  grow_pool = sorts_none (λ g. g.pool) c.grow_pool ordered.grow_pool i;
-  down = sorts_none (λ osd. osd) c.down ordered.down i;
-  up = sorts_none (λ osd. osd) c.up ordered.up i;
-  weight = sorts_none (λ w. w.osd) c.weight ordered.weight i;
-  old_upmap = sorts_none pg_key c.old_upmap ordered.old_upmap i;
-  old_items = sorts_none pg_key c.old_items ordered.old_items i;
-  new_upmap = sorts_none key_of c.new_upmap ordered.new_upmap i;
-  new_items = sorted_same key_of items c.new_items rises ordered.new_items i;
+  pools = record {
+    gone = sorts_none (λ id. id) c.pools.gone ordered.pools.gone i;
+    come = sorts_none (λ p. p.id) c.pools.come ordered.pools.come i;
+    grow = sorts_none (λ g. g.pool) c.pools.grow ordered.pools.grow i;
+  };
+  crush = ordered.crush i;
+  osds = record {
+    down = sorts_none (λ osd. osd) c.osds.down ordered.osds.down i;
+    up = sorts_none (λ osd. osd) c.osds.up ordered.osds.up i;
+  };
+  weights = sorts_none (λ w. w.osd) c.weights ordered.weights i;
+  explicit = record {
+    gone = sorts_none pg_key c.explicit.gone ordered.explicit.gone i;
+    come = sorts_none key_of c.explicit.come ordered.explicit.come i;
+  };
+  items = record {
+    gone = sorts_none pg_key c.items.gone ordered.items.gone i;
+    come = sorted_same key_of items c.items.come rises ordered.items.come i;
+  };
 }

@@ -1,7 +1,7 @@
 -- What a change names and what it leaves: its keys rise, the groups that it names are found, and what it has not stays.
 use Rattle.std.proofs.Common.{◌≡◌, ◌∙◌, refl, sym, ap, cond, ℕ, ◌⊎◌, ◌+◌, ◌<◌, ◌≤◌, Bool, true, false, not, ◌||◌, eqb, List, [], ◌∷◌, ◌++◌, length, take, map, get_or, Option, Some, None, is_some, inl, inr, arith}
 use mathlib.Core.Bool.{false≢true}
-use Rattle.std.specs.List.{filter}
+use Rattle.std.specs.List.{filter, list_all}
 use Rattle.std.specs.Option.{option_map, option_or}
 use Rattle.std.proofs.lemmas.List.{get_or-map, length-map, take_all}
 use Rattle.std.proofs.lemmas.List.Elements.{All-weaker}
@@ -11,14 +11,17 @@ use Rattle.keylist.specs.Order.{IsRising}
 use Rattle.keylist.proofs.KeyedDistinct.{distinct-append}
 use Rattle.keylist.proofs.KeyedOrder.{distinct_rises}
 use Rattle.keylist.proofs.KeyedMaps.{entry-puts, entry-reverse, entry-without, has-puts, rising-puts}
+use Rattle.mapparts.specs.declared.change.PoolChanges.{PoolChanges}
+use Rattle.mapparts.specs.declared.change.ExceptionChanges.{ExceptionChanges}
 use Rattle.maptypes.specs.CrushMaps.{CrushFacts}
 use Rattle.maptypes.specs.declared.change.ChangeParts.{ChangeParts}
 use Rattle.maptypes.specs.declared.exception.Exception.{Exception}
 use Rattle.maptypes.specs.declared.pg.Pg.{Pg}
 use Rattle.maptypes.specs.Exceptions.{pg_key, key_of, said_of, is_among, stays, exceptions_after}
 use Rattle.maptypes.specs.Ordered.{IsInOrder}
+use Rattle.maptypes.specs.Growth.{Growth}
 use Rattle.maptypes.specs.Pools.{PoolFacts}
-use Rattle.maptypes.specs.Named.{names_once, all_named_groups, EachNamed, NamedRise, is_named, excepted_groups, union_of, named_groups, said_after, renews, is_empty, leaves_raw_sets}
+use Rattle.maptypes.specs.Named.{names_once, all_named_groups, EachGroup, EachNamed, NamedRise, is_named, excepted_groups, union_of, named_groups, said_after, renews, is_empty, leaves_raw_sets}
 
 -- ---- tests
 
@@ -62,17 +65,17 @@ second_distinct ks js h = let parts = distinct-append ks js in grind (arith, par
 
 -- what comes has rising keys
 pub record Comes (c : ChangeParts) : Type 0 where
-  pub pools : IsRising (λ p. p.id) c.new_pools
-  pub upmap : IsRising key_of c.new_upmap
-  pub items : IsRising key_of c.new_items
+  pub pools : IsRising (λ p. p.id) c.pools.come
+  pub upmap : IsRising key_of c.explicit.come
+  pub items : IsRising key_of c.items.come
 
 -- so it has where no key stands twice and each part is in order
 pub comes : (c : ChangeParts) → names_once c ≡ true → IsInOrder c → Comes c
 unfolding names_once
 comes c once ordered = record {
-  pools = distinct_rises (λ (p : PoolFacts). p.id) c.new_pools ordered.new_pools (second_distinct (map (λ (k : ℕ). k) c.old_pools) _ (grind (arith, once)));
-  upmap = distinct_rises key_of c.new_upmap ordered.new_upmap (second_distinct (map pg_key c.old_upmap) _ (grind (arith, once)));
-  items = distinct_rises key_of c.new_items ordered.new_items (second_distinct (map pg_key c.old_items) _ (grind (arith, once)));
+  pools = distinct_rises (λ (p : PoolFacts). p.id) c.pools.come ordered.pools.come (second_distinct (map (λ (k : ℕ). k) c.pools.gone) _ (grind (arith, once)));
+  upmap = distinct_rises key_of c.explicit.come ordered.explicit.come (second_distinct (map pg_key c.explicit.gone) _ (grind (arith, once)));
+  items = distinct_rises key_of c.items.come ordered.items.come (second_distinct (map pg_key c.items.gone) _ (grind (arith, once)));
 }
 
 -- so do the groups that it names
@@ -81,10 +84,14 @@ unfolding names_once
 named_rise c once ordered =
     let new = comes c once ordered in
     record {
-      old_upmap = distinct_rises pg_key c.old_upmap ordered.old_upmap (first_distinct (map pg_key c.old_upmap) (map key_of c.new_upmap) (grind (arith, once)));
-      old_items = distinct_rises pg_key c.old_items ordered.old_items (first_distinct (map pg_key c.old_items) (map key_of c.new_items) (grind (arith, once)));
-      new_upmap = new.upmap;
-      new_items = new.items;
+      explicit = record {
+        gone = distinct_rises pg_key c.explicit.gone ordered.explicit.gone (first_distinct (map pg_key c.explicit.gone) (map key_of c.explicit.come) (grind (arith, once)));
+        come = new.upmap;
+      };
+      items = record {
+        gone = distinct_rises pg_key c.items.gone ordered.items.gone (first_distinct (map pg_key c.items.gone) (map key_of c.items.come) (grind (arith, once)));
+        come = new.items;
+      };
     }
 
 -- ---- groups of exceptions
@@ -127,58 +134,70 @@ pub named_has : (c : ChangeParts) (g : Pg) → is_named c g ≡ true → has_key
 unfolding is_named
 named_has c g named =
     let k = pg_key g in
-    let both = union_of c.old_upmap c.old_items in
-    let three = union_of both (excepted_groups c.new_upmap) in
-    let in_both = λ (h : (is_among c.old_upmap g || is_among c.old_items g) ≡ true). has_joined c.old_upmap c.old_items k ∙ elim (or_cases _ _ h) [
-      | inl first ↦ other_or (has_key pg_key c.old_items k) (has_key pg_key c.old_upmap k) first
-      | inr second ↦ some_or (has_key pg_key c.old_items k) (has_key pg_key c.old_upmap k) second
+    let both = union_of c.explicit.gone c.items.gone in
+    let three = union_of both (excepted_groups c.explicit.come) in
+    let in_both = λ (h : (is_among c.explicit.gone g || is_among c.items.gone g) ≡ true). has_joined c.explicit.gone c.items.gone k ∙ elim (or_cases _ _ h) [
+      | inl first ↦ other_or (has_key pg_key c.items.gone k) (has_key pg_key c.explicit.gone k) first
+      | inr second ↦ some_or (has_key pg_key c.items.gone k) (has_key pg_key c.explicit.gone k) second
     ] in
-    has_joined three (excepted_groups c.new_items) k ∙ elim (or_cases _ _ named) [
-      | inr last ↦ some_or _ _ (groups_have c.new_items k ∙ last)
-      | inl rest ↦ other_or _ _ (has_joined both (excepted_groups c.new_upmap) k ∙ elim (or_cases _ _ rest) [
-        | inr third ↦ some_or _ _ (groups_have c.new_upmap k ∙ third)
+    has_joined three (excepted_groups c.items.come) k ∙ elim (or_cases _ _ named) [
+      | inr last ↦ some_or _ _ (groups_have c.items.come k ∙ last)
+      | inl rest ↦ other_or _ _ (has_joined both (excepted_groups c.explicit.come) k ∙ elim (or_cases _ _ rest) [
+        | inr third ↦ some_or _ _ (groups_have c.explicit.come k ∙ third)
         | inl olds ↦ other_or _ _ (in_both olds)
       ])
     ]
 
+-- exceptions of one kind neither go nor come of a group
+pub record HasNone {E : Type 0} (c : ExceptionChanges Pg (Exception E)) (g : Pg) : Type 0 where
+  pub gone : is_among c.gone g ≡ false
+  pub come : has_key key_of c.come (pg_key g) ≡ false
+
 -- a group that a change does not name is in none of its lists
 pub record IsUnnamed (c : ChangeParts) (g : Pg) : Type 0 where
-  pub old_upmap : is_among c.old_upmap g ≡ false
-  pub old_items : is_among c.old_items g ≡ false
-  pub new_upmap : has_key key_of c.new_upmap (pg_key g) ≡ false
-  pub new_items : has_key key_of c.new_items (pg_key g) ≡ false
+  pub explicit : HasNone c.explicit g
+  pub items : HasNone c.items g
 
 -- that it is in none is what the test finds
 pub unnamed : (c : ChangeParts) (g : Pg) → is_named c g ≡ false → IsUnnamed c g
 unfolding is_named
 unnamed c g none =
-    let three = or_first _ (has_key key_of c.new_items (pg_key g)) none in
-    let olds = or_first _ (has_key key_of c.new_upmap (pg_key g)) three in
+    let three = or_first _ (has_key key_of c.items.come (pg_key g)) none in
+    let olds = or_first _ (has_key key_of c.explicit.come (pg_key g)) three in
     record {
-      old_upmap = or_first (is_among c.old_upmap g) (is_among c.old_items g) olds;
-      old_items = or_second (is_among c.old_upmap g) (is_among c.old_items g) olds;
-      new_upmap = or_second _ (has_key key_of c.new_upmap (pg_key g)) three;
-      new_items = or_second _ (has_key key_of c.new_items (pg_key g)) none;
+      explicit = record {
+        gone = or_first (is_among c.explicit.gone g) (is_among c.items.gone g) olds;
+        come = or_second _ (has_key key_of c.explicit.come (pg_key g)) three;
+      };
+      items = record {
+        gone = or_second (is_among c.explicit.gone g) (is_among c.items.gone g) olds;
+        come = or_second _ (has_key key_of c.items.come (pg_key g)) none;
+      };
     }
 
 -- where each group that is named passes a test, each has what the test finds
 pub each_named : (p : Pg → Bool) (P : Pg → Type 0) (c : ChangeParts) → ((g : Pg) → p g ≡ true → P g) → all_named_groups p c ≡ true → EachNamed P c
 unfolding all_named_groups
 each_named p P c found all = record {
-  old_upmap = All-weaker (λ g. p g ≡ true) P found c.old_upmap (AllPass-from_list_all p c.old_upmap (grind (arith, all)));
-  old_items = All-weaker (λ g. p g ≡ true) P found c.old_items (AllPass-from_list_all p c.old_items (grind (arith, all)));
-  new_upmap = All-weaker (λ e. p e.pg ≡ true) (λ e. P e.pg) (λ e. found e.pg) c.new_upmap (AllPass-from_list_all (λ e. p e.pg) c.new_upmap (grind (arith, all)));
-  new_items = All-weaker (λ e. p e.pg ≡ true) (λ e. P e.pg) (λ e. found e.pg) c.new_items (AllPass-from_list_all (λ e. p e.pg) c.new_items (grind (arith, all)));
+  explicit = each_group c.explicit (grind (arith, all)) (grind (arith, all));
+  items = each_group c.items (grind (arith, all)) (grind (arith, all));
 }
+  where
+    each_group : {E : Type 0} (x : ExceptionChanges Pg (Exception E)) → list_all p x.gone ≡ true → list_all (λ e. p e.pg) x.come ≡ true → EachGroup P x
+    each_group x gone come = record {
+      gone = All-weaker (λ g. p g ≡ true) P found x.gone (AllPass-from_list_all p x.gone gone);
+      come = All-weaker (λ e. p e.pg ≡ true) (λ e. P e.pg) (λ e. found e.pg) x.come (AllPass-from_list_all (λ e. p e.pg) x.come come);
+    }
 
 -- what follows from a property of each group that is named holds of each
 pub each_weaker : (P Q : Pg → Type 0) (c : ChangeParts) → ((g : Pg) → P g → Q g) → EachNamed P c → EachNamed Q c
-each_weaker P Q c so each = record {
-  old_upmap = All-weaker P Q so c.old_upmap each.old_upmap;
-  old_items = All-weaker P Q so c.old_items each.old_items;
-  new_upmap = All-weaker (λ e. P e.pg) (λ e. Q e.pg) (λ e. so e.pg) c.new_upmap each.new_upmap;
-  new_items = All-weaker (λ e. P e.pg) (λ e. Q e.pg) (λ e. so e.pg) c.new_items each.new_items;
-}
+each_weaker P Q c so each = record { explicit = group_weaker c.explicit each.explicit; items = group_weaker c.items each.items }
+  where
+    group_weaker : {E : Type 0} (x : ExceptionChanges Pg (Exception E)) → EachGroup P x → EachGroup Q x
+    group_weaker x has = record {
+      gone = All-weaker P Q so x.gone has.gone;
+      come = All-weaker (λ e. P e.pg) (λ e. Q e.pg) (λ e. so e.pg) x.come has.come;
+    }
 
 -- what is said of a group after exceptions went and came, where no pool goes
 pub said_then : {E : Type 0} (gone : List Pg) (new es : List (Exception E)) (g : Pg) → IsRising key_of new → said_of (exceptions_after [] gone new es) g ≡ said_after gone new (said_of es g) g
@@ -204,19 +223,19 @@ none_there (Some x) h = absurd (false≢true (sym h))
 
 -- a pool that a change does not make anew: no forest comes, nor the pool, nor does it grow
 pub record IsUnrenewed (c : ChangeParts) (id : ℕ) : Type 0 where
-  pub crush : c.new_crush ≡ None
-  pub new : has_key (λ p. p.id) c.new_pools id ≡ false
-  pub grow : has_key (λ g. g.pool) c.grow_pool id ≡ false
+  pub crush : c.crush ≡ None
+  pub new : has_key (λ p. p.id) c.pools.come id ≡ false
+  pub grow : has_key (λ g. g.pool) c.pools.grow id ≡ false
 
 -- that is what the test finds
 pub unrenewed : (c : ChangeParts) (id : ℕ) → renews c id ≡ false → IsUnrenewed c id
 unfolding renews
 unrenewed c id none =
-    let two = or_first _ (has_key (λ g. g.pool) c.grow_pool id) none in
+    let two = or_first _ (has_key (λ g. g.pool) c.pools.grow id) none in
     record {
-      crush = none_there c.new_crush (or_first (is_some c.new_crush) (has_key (λ p. p.id) c.new_pools id) two);
-      new = or_second (is_some c.new_crush) (has_key (λ p. p.id) c.new_pools id) two;
-      grow = or_second _ (has_key (λ g. g.pool) c.grow_pool id) none;
+      crush = none_there c.crush (or_first (is_some c.crush) (has_key (λ p. p.id) c.pools.come id) two);
+      new = or_second (is_some c.crush) (has_key (λ p. p.id) c.pools.come id) two;
+      grow = or_second _ (has_key (λ g. g.pool) c.pools.grow id) none;
     }
 
 -- ---- changes that leave all raw sets
@@ -231,26 +250,32 @@ no_crush : (k : Option CrushFacts) → not (is_some k) ≡ true → k ≡ None
 no_crush None is = refl
 no_crush (Some k) is = absurd (false≢true is)
 
+-- pools that stay as they are
+pub record LeavesPools (c : PoolChanges ℕ PoolFacts Growth) : Type 0 where
+  pub gone : c.gone ≡ []
+  pub come : c.come ≡ []
+  pub grow : c.grow ≡ []
+
 -- the parts that such a change has not
 pub record LeavesRawSets (c : ChangeParts) : Type 0 where
-  pub old_pools : c.old_pools ≡ []
-  pub new_crush : c.new_crush ≡ None
-  pub new_pools : c.new_pools ≡ []
-  pub grow_pool : c.grow_pool ≡ []
-  pub weight : c.weight ≡ []
+  pub pools : LeavesPools c.pools
+  pub crush : c.crush ≡ None
+  pub weights : c.weights ≡ []
 
 -- that these are missing is what the test finds
 pub leaving : (c : ChangeParts) → leaves_raw_sets c ≡ true → LeavesRawSets c
 unfolding leaves_raw_sets
 leaving c is = record {
-  old_pools = nothing c.old_pools (grind (arith, is));
-  new_crush = no_crush c.new_crush (grind (arith, is));
-  new_pools = nothing c.new_pools (grind (arith, is));
-  grow_pool = nothing c.grow_pool (grind (arith, is));
-  weight = nothing c.weight (grind (arith, is));
+  pools = record {
+    gone = nothing c.pools.gone (grind (arith, is));
+    come = nothing c.pools.come (grind (arith, is));
+    grow = nothing c.pools.grow (grind (arith, is));
+  };
+  crush = no_crush c.crush (grind (arith, is));
+  weights = nothing c.weights (grind (arith, is));
 }
 
 -- it makes no pool anew
 pub none_renewed : (c : ChangeParts) (id : ℕ) → LeavesRawSets c → renews c id ≡ false
 unfolding renews
-none_renewed c id s = rw (s.new_crush, s.new_pools, s.grow_pool) refl
+none_renewed c id s = rw (s.crush, s.pools.come, s.pools.grow) refl

@@ -24,6 +24,6 @@ group_text pg = decimal pg.pool ++ 46 ∷ digits 16 false pg.number
 abbrev pub TextNamesGroup : ℕ → ℕ → Type 0
 TextNamesGroup pool number = let pg : Pg = record { pool = pool; number = number } in group_in (group_text pg) ≡ Some pg
 
--- the same of a group
-abbrev pub IsReadBack : Pg → Type 0
-IsReadBack g = TextNamesGroup g.pool g.number
+-- a group is the one that its text names
+abbrev pub IsNamedByText : Pg → Type 0
+IsNamedByText g = TextNamesGroup g.pool g.number

@@ -5,6 +5,7 @@ use Rattle.std.specs.Option.{option_or}
 use Rattle.keylist.specs.Keys.{is_distinct, has_key}
 use Rattle.keylist.specs.Order.{IsRising}
 use Rattle.keylist.specs.Puts.{put}
+use Rattle.mapparts.specs.declared.change.ExceptionChanges.{ExceptionChanges}
 use Rattle.mapparts.specs.declared.profile.Profile.{Profile}
 use Rattle.maptypes.specs.declared.change.ChangeParts.{ChangeParts}
 use Rattle.maptypes.specs.declared.exception.Exception.{Exception}
@@ -17,33 +18,36 @@ use Rattle.maptypes.specs.Exceptions.{pg_key, key_of, is_among, said_of}
 -- no key stands twice in a part, nor in both parts of a couple
 unfoldable pub names_once : ChangeParts → Bool
 names_once c =
-    is_distinct (map (λ id. id) c.old_pools ++ map (λ p. p.id) c.new_pools)
-    && is_distinct (map (λ p. p.id) c.new_pools ++ map (λ g. g.pool) c.grow_pool)
-    && is_distinct (map (λ osd. osd) c.down ++ map (λ osd. osd) c.up)
-    && is_distinct (map (λ w. w.osd) c.weight)
-    && is_distinct (map pg_key c.old_upmap ++ map key_of c.new_upmap)
-    && is_distinct (map pg_key c.old_items ++ map key_of c.new_items)
+    is_distinct (map (λ id. id) c.pools.gone ++ map (λ p. p.id) c.pools.come)
+    && is_distinct (map (λ p. p.id) c.pools.come ++ map (λ g. g.pool) c.pools.grow)
+    && is_distinct (map (λ osd. osd) c.osds.down ++ map (λ osd. osd) c.osds.up)
+    && is_distinct (map (λ w. w.osd) c.weights)
+    && is_distinct (map pg_key c.explicit.gone ++ map key_of c.explicit.come)
+    && is_distinct (map pg_key c.items.gone ++ map key_of c.items.come)
 
 -- ---- groups
 
 -- whether exceptions of a group go or come
 unfoldable pub is_named : ChangeParts → Pg → Bool
 is_named c g =
-    is_among c.old_upmap g || is_among c.old_items g
-    || has_key key_of c.new_upmap (pg_key g) || has_key key_of c.new_items (pg_key g)
+    is_among c.explicit.gone g || is_among c.items.gone g
+    || has_key key_of c.explicit.come (pg_key g) || has_key key_of c.items.come (pg_key g)
 
 -- each group that is named passes a test
 unfoldable pub all_named_groups : (Pg → Bool) → ChangeParts → Bool
 all_named_groups p c =
-    list_all p c.old_upmap && list_all p c.old_items && list_all (λ e. p e.pg) c.new_upmap
-    && list_all (λ e. p e.pg) c.new_items
+    list_all p c.explicit.gone && list_all p c.items.gone && list_all (λ e. p e.pg) c.explicit.come
+    && list_all (λ e. p e.pg) c.items.come
 
--- each group that is named has a property
+-- each group whose exceptions of one kind go or come has a property
+pub record EachGroup {E : Type 0} (P : Pg → Type 0) (c : ExceptionChanges Pg (Exception E)) : Type 0 where
+  pub gone : All P c.gone
+  pub come : All (λ e. P e.pg) c.come
+
+-- so has each group that is named
 pub record EachNamed (P : Pg → Type 0) (c : ChangeParts) : Type 0 where
-  pub old_upmap : All P c.old_upmap
-  pub old_items : All P c.old_items
-  pub new_upmap : All (λ e. P e.pg) c.new_upmap
-  pub new_items : All (λ e. P e.pg) c.new_items
+  pub explicit : EachGroup P c.explicit
+  pub items : EachGroup P c.items
 
 -- the groups of some exceptions
 abbrev pub excepted_groups : {E : Type 0} → List (Exception E) → List Pg
@@ -56,14 +60,18 @@ union_of some others = fold (put pg_key) some others
 -- the groups that a change names
 abbrev pub named_groups : ChangeParts → List Pg
 named_groups c =
-    union_of (union_of (union_of c.old_upmap c.old_items) (excepted_groups c.new_upmap)) (excepted_groups c.new_items)
+    union_of (union_of (union_of c.explicit.gone c.items.gone) (excepted_groups c.explicit.come))
+    (excepted_groups c.items.come)
 
--- what a change names is in ascending order, each once
+-- the groups whose exceptions of one kind go, and those whose come, are in ascending order, each once
+pub record GroupsRise {E : Type 0} (c : ExceptionChanges Pg (Exception E)) : Type 0 where
+  pub gone : IsRising pg_key c.gone
+  pub come : IsRising key_of c.come
+
+-- so is what a change names
 pub record NamedRise (c : ChangeParts) : Type 0 where
-  pub old_upmap : IsRising pg_key c.old_upmap
-  pub old_items : IsRising pg_key c.old_items
-  pub new_upmap : IsRising key_of c.new_upmap
-  pub new_items : IsRising key_of c.new_items
+  pub explicit : GroupsRise c.explicit
+  pub items : GroupsRise c.items
 
 -- what is said of a group after exceptions went and came: what comes in its place, nothing where it goes, else what
 -- was said
@@ -72,21 +80,21 @@ said_after gone new said g = option_or (said_of new g) (if is_among gone g then 
 
 -- the explicit set of a group after a change, where it had this one or none
 abbrev pub explicit_after : ChangeParts → Option (List ℕ) → Pg → Option (List ℕ)
-explicit_after c said g = said_after c.old_upmap c.new_upmap said g
+explicit_after c said g = said_after c.explicit.gone c.explicit.come said g
 
 -- its pairs after a change, where it had these or none
 abbrev pub items_after : ChangeParts → Option (List Pair) → Pg → Option (List Pair)
-items_after c said g = said_after c.old_items c.new_items said g
+items_after c said g = said_after c.items.gone c.items.come said g
 
 -- ---- pools
 
 -- whether a change takes a pool of an id away
 abbrev pub loses : ChangeParts → ℕ → Bool
-loses c id = has_key (λ k. k) c.old_pools id
+loses c id = has_key (λ k. k) c.pools.gone id
 
 -- whether a change makes a pool of an id anew: the forest and the rules are replaced, or the pool comes or grows
 unfoldable pub renews : ChangeParts → ℕ → Bool
-renews c id = is_some c.new_crush || has_key (λ p. p.id) c.new_pools id || has_key (λ g. g.pool) c.grow_pool id
+renews c id = is_some c.crush || has_key (λ p. p.id) c.pools.come id || has_key (λ g. g.pool) c.pools.grow id
 
 -- ---- what a change leaves
 
@@ -99,26 +107,25 @@ is_empty (x ∷ xs) = false
 -- exceptions it names is placed otherwise
 unfoldable pub leaves_raw_sets : ChangeParts → Bool
 leaves_raw_sets c =
-    is_empty c.old_pools && not (is_some c.new_crush) && is_empty c.new_pools && is_empty c.grow_pool
-    && is_empty c.weight
+    is_empty c.pools.gone && not (is_some c.crush) && is_empty c.pools.come && is_empty c.pools.grow
+    && is_empty c.weights
+
+-- no exceptions go or come
+abbrev pub no_exceptions : {G E : Type 0} → ExceptionChanges G E
+no_exceptions = record { gone = []; come = [] }
 
 -- the change that does nothing
 abbrev pub no_parts : Profile → ChangeParts
 no_parts profile = record {
   profile = profile;
-  old_pools = [];
-  new_crush = None;
-  new_pools = [];
-  grow_pool = [];
-  down = [];
-  up = [];
-  weight = [];
-  old_upmap = [];
-  old_items = [];
-  new_upmap = [];
-  new_items = [];
+  pools = record { gone = []; come = []; grow = [] };
+  crush = None;
+  osds = record { down = []; up = [] };
+  weights = [];
+  explicit = no_exceptions;
+  items = no_exceptions;
 }
 
 -- the change that gives groups their pairs, and does nothing else
 abbrev pub items_alone : Profile → List (Exception Pair) → ChangeParts
-items_alone profile items = record (no_parts profile) { new_items = items }
+items_alone profile items = record (no_parts profile) { items = record { gone = []; come = items } }

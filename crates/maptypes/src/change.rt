@@ -2,49 +2,41 @@
 
 ghost use Rattle.std.specs.Prelude.{◌≡◌, [], IfOk, IfSome};
 ghost use Rattle.std.specs.List.{All};
-ghost use Rattle.keylist.specs.Order.{SortsBy};
 ghost use Rattle.maptypes.specs.CrushMaps.{IsCrushMap};
 ghost use Rattle.maptypes.specs.Growth.{IsGrowth};
+ghost use Rattle.maptypes.specs.Named.{no_exceptions};
+ghost use Rattle.maptypes.specs.Ordered.{OrdersPools, OrdersOsds, OrdersExceptions};
 ghost use Rattle.maptypes.specs.Pools.{IsWithinLimits};
 
 use crate::crush_map::CrushMap;
-use crate::exception::{Explicit, Items};
+use crate::exception::{Exception, Explicit, Items};
 use crate::grow::Grow;
 use crate::pg::Pg;
 use crate::pool::Pool;
+use crate::short::Blank;
 use keylist::{Entries, Keyed, sort_entries};
-use mapparts::Profile;
+use mapparts::{ExceptionChanges, OsdChanges, PoolChanges, Profile};
 use refusal::Memory;
 use std::alloc::Global;
 use std::marker::Model;
 
-/// The parts of a change, each list in any order. They act in the order in which they stand here.
+/// The parts of a change by families, each list in any order.
 #[derive(Debug, Drop)]
 pub struct ChangeParts {
     /// By whose limit the pools after the change are counted: there may be 32, in a stock cluster 256.
     pub profile: Profile,
-    /// The ids of the pools that are taken away, with their exceptions.
-    pub old_pools: Entries<u32>,
+    /// The pools that are taken away, come and grow. By those that stay or come the forest and the rules are judged.
+    pub pools: PoolChanges<u32, Pool, Grow>,
     /// The forest and the rules that come in place of those of the map.
-    pub new_crush: Option<CrushMap>,
-    /// The pools that come.
-    pub new_pools: Entries<Pool>,
-    /// The pools that grow, and what to.
-    pub grow_pool: Entries<Grow>,
-    /// The OSDs that go down.
-    pub down: Entries<u32>,
-    /// The OSDs that come up.
-    pub up: Entries<u32>,
+    pub crush: Option<CrushMap>,
+    /// The OSDs that go down, and those that then come up.
+    pub osds: OsdChanges<u32>,
     /// The OSDs that get another reweight.
-    pub weight: Entries<Reweight>,
-    /// The groups whose explicit set is taken away.
-    pub old_upmap: Entries<Pg>,
-    /// The groups whose pairs are taken away.
-    pub old_items: Entries<Pg>,
-    /// The explicit sets that groups get.
-    pub new_upmap: Entries<Explicit>,
-    /// The pairs that groups get, in place of those they have.
-    pub new_items: Entries<Items>,
+    pub weights: Entries<Reweight>,
+    /// The explicit sets that are taken away, and those that then come.
+    pub explicit: ExceptionChanges<Pg, Explicit>,
+    /// The pairs of groups that are taken away, and those that then come.
+    pub items: ExceptionChanges<Pg, Items>,
 }
 
 /// A part that has no entries.
@@ -52,6 +44,16 @@ fn nothing<T>(alloc: Global) -> Entries<T>
     ensures { result ≡ [] }
 {
     Entries::new(Vec::new(alloc))
+}
+
+/// No exceptions go or come.
+fn no_exceptions<G, E>(alloc: Global) -> ExceptionChanges<G, E>
+    ensures { result ≡ no_exceptions }
+{
+    ExceptionChanges {
+        gone: nothing(alloc),
+        come: nothing(alloc),
+    }
 }
 
 impl ChangeParts {
@@ -64,17 +66,19 @@ impl ChangeParts {
     {
         ChangeParts {
             profile,
-            old_pools: nothing(alloc),
-            new_crush: None,
-            new_pools: nothing(alloc),
-            grow_pool: nothing(alloc),
-            down: nothing(alloc),
-            up: nothing(alloc),
-            weight: nothing(alloc),
-            old_upmap: nothing(alloc),
-            old_items: nothing(alloc),
-            new_upmap: nothing(alloc),
-            new_items: nothing(alloc),
+            pools: PoolChanges {
+                gone: nothing(alloc),
+                come: nothing(alloc),
+                grow: nothing(alloc),
+            },
+            crush: None,
+            osds: OsdChanges {
+                down: nothing(alloc),
+                up: nothing(alloc),
+            },
+            weights: nothing(alloc),
+            explicit: no_exceptions(alloc),
+            items: no_exceptions(alloc),
         }
     }
 }
@@ -113,15 +117,39 @@ impl Model for Change {
     ghost invariant = { λ c. IsChange c.parts };
 }
 
-/// Two lists, each in ascending order of its keys.
-fn both_ordered<K: Keyed, L: Keyed>(
-    some: Entries<K>,
-    others: Entries<L>,
-) -> Result<(Entries<K>, Entries<L>), Memory>
-    ensures some { IfOk result (λ both. SortsBy K.key_of some both.0) }
-    ensures others { IfOk result (λ both. SortsBy L.key_of others both.1) }
+/// What a change does with pools, each list in ascending order of its keys.
+fn ordered_pools(
+    pools: PoolChanges<u32, Pool, Grow>,
+) -> Result<PoolChanges<u32, Pool, Grow>, Memory>
+    ensures { IfOk result (OrdersPools pools) }
 {
-    Ok((sort_entries(some)?, sort_entries(others)?))
+    Ok(PoolChanges {
+        gone: sort_entries(pools.gone)?,
+        come: sort_entries(pools.come)?,
+        grow: sort_entries(pools.grow)?,
+    })
+}
+
+/// What it does with OSDs, in the same order.
+fn ordered_osds(osds: OsdChanges<u32>) -> Result<OsdChanges<u32>, Memory>
+    ensures { IfOk result (OrdersOsds osds) }
+{
+    Ok(OsdChanges {
+        down: sort_entries(osds.down)?,
+        up: sort_entries(osds.up)?,
+    })
+}
+
+/// What it does with exceptions of one kind, in the same order.
+fn ordered_exceptions<E: Blank>(
+    exceptions: ExceptionChanges<Pg, Exception<E>>,
+) -> Result<ExceptionChanges<Pg, Exception<E>>, Memory>
+    ensures { IfOk result (OrdersExceptions exceptions) }
+{
+    Ok(ExceptionChanges {
+        gone: sort_entries(exceptions.gone)?,
+        come: sort_entries(exceptions.come)?,
+    })
 }
 
 /// Each growth is within its limits: for a proof alone.
@@ -170,29 +198,23 @@ impl Change {
     pub fn new(parts: ChangeParts) -> Result<Change, Memory>
         ensures { IfOk result (IsOrdered parts) }
     {
-        let (old_pools, new_pools) = both_ordered(parts.old_pools, parts.new_pools)?;
-        let grow_pool = sort_entries(parts.grow_pool)?;
-        let (down, up) = both_ordered(parts.down, parts.up)?;
-        let weight = sort_entries(parts.weight)?;
-        let (old_upmap, new_upmap) = both_ordered(parts.old_upmap, parts.new_upmap)?;
-        let (old_items, new_items) = both_ordered(parts.old_items, parts.new_items)?;
-        are_within_limits(&new_pools);
-        are_growths(&grow_pool);
-        is_crush_map(&parts.new_crush);
+        let pools = ordered_pools(parts.pools)?;
+        let osds = ordered_osds(parts.osds)?;
+        let weights = sort_entries(parts.weights)?;
+        let explicit = ordered_exceptions(parts.explicit)?;
+        let items = ordered_exceptions(parts.items)?;
+        are_within_limits(&pools.come);
+        are_growths(&pools.grow);
+        is_crush_map(&parts.crush);
         Ok(Change {
             parts: ChangeParts {
                 profile: parts.profile,
-                old_pools,
-                new_crush: parts.new_crush,
-                new_pools,
-                grow_pool,
-                down,
-                up,
-                weight,
-                old_upmap,
-                old_items,
-                new_upmap,
-                new_items,
+                pools,
+                crush: parts.crush,
+                osds,
+                weights,
+                explicit,
+                items,
             },
         })
     }
@@ -207,7 +229,7 @@ impl Change {
         ensures { IfOk result (λ change. change ≡ items_alone profile items.items) }
     {
         let mut parts = ChangeParts::none(alloc, profile);
-        parts.new_items = Entries::new(items);
+        parts.items.come = Entries::new(items);
         let change = Change::new(parts)?;
         Ok(change)
     }
@@ -216,9 +238,9 @@ impl Change {
     pub fn parts(&self) -> &ChangeParts
         ensures value { result.now ≡ self.now }
         ensures in_order { IsInOrder self.now }
-        ensures pools_within { All IsWithinLimits self.now.new_pools }
-        ensures growths_within { All IsGrowth self.now.grow_pool }
-        ensures crush_map { IfSome self.now.new_crush IsCrushMap }
+        ensures pools_within { All IsWithinLimits self.now.pools.come }
+        ensures growths_within { All IsGrowth self.now.pools.grow }
+        ensures crush_map { IfSome self.now.crush IsCrushMap }
     {
         &self.parts
     }

@@ -7,11 +7,11 @@ ghost use Rattle.std.specs.List.Sorted.{IsNonDecreasingBy};
 ghost use Rattle.crush.specs.Limits.{max_size};
 ghost use Rattle.keylist.specs.Order.{IsRising};
 ghost use Rattle.maptypes.specs.Exceptions.{pg_key, key_of};
-ghost use Rattle.maptypes.specs.GroupText.{IsReadBack};
+ghost use Rattle.maptypes.specs.GroupText.{IsNamedByText};
 ghost use Rattle.maptypes.specs.Named.{excepted_groups, union_of, said_after, is_empty};
 
 use crate::change::Change;
-use crate::exception::{Exception, NamesGroup, Pair};
+use crate::exception::{Exception, Explicit, Items, NamesGroup, Pair};
 use crate::pg::Pg;
 use crate::pg_text::group_text_is_read_back;
 use crate::short::Blank;
@@ -94,7 +94,7 @@ fn said_after<'a, E: Blank>(
 
 /// The text of the group of each entry is read back: for a proof alone.
 fn are_read_back<G: NamesGroup>(entries: &[G])
-    ensures { All (λ e. IsReadBack (G.named e)) entries.now }
+    ensures { All (λ e. IsNamedByText (G.named e)) entries.now }
 {
     for entry in entries {
         let pg = entry.group();
@@ -103,12 +103,12 @@ fn are_read_back<G: NamesGroup>(entries: &[G])
 }
 
 impl Change {
-    ghost use Rattle.std.specs.Prelude.{◌≡◌, ◌≤◌, length, IfSome, IfOk};
+    ghost use Rattle.std.specs.Prelude.{◌≡◌, ◌≤◌, true, [], length, IfSome, IfOk};
     ghost use Rattle.std.specs.Option.{option_copied};
     ghost use Rattle.crush.specs.Limits.{max_size};
     ghost use Rattle.keylist.specs.Order.{IsRising};
     ghost use Rattle.maptypes.specs.Exceptions.{pg_key};
-    ghost use Rattle.maptypes.specs.GroupText.{IsReadBack};
+    ghost use Rattle.maptypes.specs.GroupText.{IsNamedByText};
     ghost use Rattle.maptypes.specs.Named.{names_once, is_named, EachNamed, named_groups, NamedRise, explicit_after, items_after, renews, leaves_raw_sets};
 
     /// Whether no key stands twice in a part, or in both parts of a couple: old and new pools, new pools and growths,
@@ -118,12 +118,12 @@ impl Change {
         ensures { result ≡ names_once self.now }
     {
         let parts = self.parts();
-        are_apart(&parts.old_pools, &parts.new_pools)
-            && are_apart(&parts.new_pools, &parts.grow_pool)
-            && are_apart(&parts.down, &parts.up)
-            && are_distinct(&parts.weight)
-            && are_apart(&parts.old_upmap, &parts.new_upmap)
-            && are_apart(&parts.old_items, &parts.new_items)
+        are_apart(&parts.pools.gone, &parts.pools.come)
+            && are_apart(&parts.pools.come, &parts.pools.grow)
+            && are_apart(&parts.osds.down, &parts.osds.up)
+            && are_distinct(&parts.weights)
+            && are_apart(&parts.explicit.gone, &parts.explicit.come)
+            && are_apart(&parts.items.gone, &parts.items.come)
     }
 
     /// Whether exceptions of a group go or come with it.
@@ -133,21 +133,31 @@ impl Change {
     {
         let parts = self.parts();
         let key = pg.key();
-        has(&parts.old_upmap, key)
-            || has(&parts.old_items, key)
-            || has(&parts.new_upmap, key)
-            || has(&parts.new_items, key)
+        has(&parts.explicit.gone, key)
+            || has(&parts.items.gone, key)
+            || has(&parts.explicit.come, key)
+            || has(&parts.items.come, key)
     }
 
     /// The text of each group that it names is read back: for a proof alone.
     pub fn groups_are_read_back(&self)
-        ensures { EachNamed IsReadBack self.now }
+        ensures { EachNamed IsNamedByText self.now }
     {
         let parts = self.parts();
-        are_read_back(&parts.old_upmap);
-        are_read_back(&parts.old_items);
-        are_read_back(&parts.new_upmap);
-        are_read_back(&parts.new_items);
+        are_read_back(&parts.explicit.gone);
+        are_read_back(&parts.items.gone);
+        are_read_back(&parts.explicit.come);
+        are_read_back(&parts.items.come);
+    }
+
+    /// Whether it names no group.
+    fn names_none(&self) -> bool
+        ensures { result ≡ true → named_groups self.now ≡ [] }
+    {
+        let parts = self.parts();
+        let gone: (&[Pg], &[Pg]) = (&parts.explicit.gone, &parts.items.gone);
+        let come: (&[Explicit], &[Items]) = (&parts.explicit.come, &parts.items.come);
+        matches!((gone, come), (([], []), ([], [])))
     }
 
     /// The groups whose exceptions go or come with it, in ascending order.
@@ -160,11 +170,14 @@ impl Change {
         ensures named { IfOk result (λ groups. groups.items ≡ named_groups self.now) }
         ensures rising { IfOk result (λ groups. IsRising pg_key groups.items) }
     {
+        if self.names_none() {
+            return Ok(Vec::new(alloc));
+        }
         let parts = self.parts();
-        let mut groups = Vec::from_slice(alloc, &parts.old_upmap)?;
-        join(&mut groups, &parts.old_items)?;
-        join_groups_of(alloc, &mut groups, &parts.new_upmap)?;
-        join_groups_of(alloc, &mut groups, &parts.new_items)?;
+        let mut groups = Vec::from_slice(alloc, &parts.explicit.gone)?;
+        join(&mut groups, &parts.items.gone)?;
+        join_groups_of(alloc, &mut groups, &parts.explicit.come)?;
+        join_groups_of(alloc, &mut groups, &parts.items.come)?;
         Ok(groups)
     }
 
@@ -176,7 +189,7 @@ impl Change {
         ensures few { IfSome result (λ entries. length entries.now ≤ max_size) }
     {
         let parts = self.parts();
-        said_after(&parts.old_upmap, &parts.new_upmap, said, pg)
+        said_after(&parts.explicit.gone, &parts.explicit.come, said, pg)
     }
 
     /// The pairs of a group after it, where it had these, at most 20, or none.
@@ -187,7 +200,7 @@ impl Change {
         ensures few { IfSome result (λ entries. length entries.now ≤ max_size) }
     {
         let parts = self.parts();
-        said_after(&parts.old_items, &parts.new_items, said, pg)
+        said_after(&parts.items.gone, &parts.items.come, said, pg)
     }
 
     /// Whether it makes a pool of an id anew: it replaces the forest and the rules, or the pool comes or grows.
@@ -196,9 +209,9 @@ impl Change {
         ensures { result ≡ renews self.now id }
     {
         let parts = self.parts();
-        parts.new_crush.is_some()
-            || has(&parts.new_pools, u64::from(id))
-            || has(&parts.grow_pool, u64::from(id))
+        parts.crush.is_some()
+            || has(&parts.pools.come, u64::from(id))
+            || has(&parts.pools.grow, u64::from(id))
     }
 
     /// Whether it leaves all pools, the forest, the rules and the reweights as they are, so that only a group whose
@@ -208,10 +221,10 @@ impl Change {
         ensures { result ≡ leaves_raw_sets self.now }
     {
         let parts = self.parts();
-        is_empty(&parts.old_pools)
-            && parts.new_crush.is_none()
-            && is_empty(&parts.new_pools)
-            && is_empty(&parts.grow_pool)
-            && is_empty(&parts.weight)
+        is_empty(&parts.pools.gone)
+            && parts.crush.is_none()
+            && is_empty(&parts.pools.come)
+            && is_empty(&parts.pools.grow)
+            && is_empty(&parts.weights)
     }
 }

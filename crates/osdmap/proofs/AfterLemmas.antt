@@ -27,7 +27,7 @@ length-with_weight weights (w ∷ ws) = length-with_weight (with_weight weights 
 pub length-apply : (m : ClusterMap) (step : Step) → length (apply m step).presences ≡ length m.presences
 unfolding apply
 length-apply m step =
-    length-with_up true (fold (with_up false) m.presences step.change.down) step.change.up ∙ length-with_up false m.presences step.change.down
+    length-with_up true (fold (with_up false) m.presences step.change.osds.down) step.change.osds.up ∙ length-with_up false m.presences step.change.osds.down
 
 -- an OSD of the map goes up or down: whether it exists stays
 pub with_up-here : (up : Bool) (presences : List Presence) (osd : ℕ) (here : Presence) → osd < length presences

@@ -18,24 +18,24 @@ use Rattle.keylist.proofs.KeyedOrder.{rising-filter}
 use Rattle.keylist.proofs.KeyedMaps.{entry-puts, entry-without, has-put, length-put, rising-put}
 
 -- an old pool is not among those kept
-pub kept-gone : (m : ClusterMap) (c : ChangeParts) (id : ℕ) → has_key (λ k. k) c.old_pools id ≡ true → entry_at (λ p. p.id) (pools_kept m c) id ≡ None
+pub kept-gone : (m : ClusterMap) (c : ChangeParts) (id : ℕ) → has_key (λ k. k) c.pools.gone id ≡ true → entry_at (λ p. p.id) (pools_kept m c) id ≡ None
 unfolding pools_kept
-kept-gone m c id gone = entry-without (λ (q : PoolFacts). q.id) (λ (k : ℕ). k) c.old_pools m.pools id ∙ rw gone refl
+kept-gone m c id gone = entry-without (λ (q : PoolFacts). q.id) (λ (k : ℕ). k) c.pools.gone m.pools id ∙ rw gone refl
 
 -- another is, as it was
-pub kept-stays : (m : ClusterMap) (c : ChangeParts) (id : ℕ) → has_key (λ k. k) c.old_pools id ≡ false → entry_at (λ p. p.id) (pools_kept m c) id ≡ entry_at (λ p. p.id) m.pools id
+pub kept-stays : (m : ClusterMap) (c : ChangeParts) (id : ℕ) → has_key (λ k. k) c.pools.gone id ≡ false → entry_at (λ p. p.id) (pools_kept m c) id ≡ entry_at (λ p. p.id) m.pools id
 unfolding pools_kept
-kept-stays m c id stays = entry-without (λ (q : PoolFacts). q.id) (λ (k : ℕ). k) c.old_pools m.pools id ∙ rw stays refl
+kept-stays m c id stays = entry-without (λ (q : PoolFacts). q.id) (λ (k : ℕ). k) c.pools.gone m.pools id ∙ rw stays refl
 
 -- of new pools of one id the last is there
-pub after-new : (m : ClusterMap) (c : ChangeParts) (id : ℕ) (p : PoolFacts) → entry_at (λ p. p.id) (reverse c.new_pools) id ≡ Some p → entry_at (λ p. p.id) (pools_there m c) id ≡ Some p
+pub after-new : (m : ClusterMap) (c : ChangeParts) (id : ℕ) (p : PoolFacts) → entry_at (λ p. p.id) (reverse c.pools.come) id ≡ Some p → entry_at (λ p. p.id) (pools_there m c) id ≡ Some p
 unfolding pools_there
-after-new m c id p new = entry-puts (λ (q : PoolFacts). q.id) (pools_kept m c) c.new_pools id ∙ rw new refl
+after-new m c id p new = entry-puts (λ (q : PoolFacts). q.id) (pools_kept m c) c.pools.come id ∙ rw new refl
 
 -- an id that no new pool has is there as it was kept
-pub after-old : (m : ClusterMap) (c : ChangeParts) (id : ℕ) → entry_at (λ p. p.id) (reverse c.new_pools) id ≡ None → entry_at (λ p. p.id) (pools_there m c) id ≡ entry_at (λ p. p.id) (pools_kept m c) id
+pub after-old : (m : ClusterMap) (c : ChangeParts) (id : ℕ) → entry_at (λ p. p.id) (reverse c.pools.come) id ≡ None → entry_at (λ p. p.id) (pools_there m c) id ≡ entry_at (λ p. p.id) (pools_kept m c) id
 unfolding pools_there
-after-old m c id new = entry-puts (λ (q : PoolFacts). q.id) (pools_kept m c) c.new_pools id ∙ rw new refl
+after-old m c id new = entry-puts (λ (q : PoolFacts). q.id) (pools_kept m c) c.pools.come id ∙ rw new refl
 
 -- ---- how many pools there are
 
@@ -58,10 +58,10 @@ module _ {X : Type 0} (key : X → ℕ) where
 
 -- new pools that are not there yet are as many more
 pub length-after : (m : ClusterMap) (c : ChangeParts) → IsRising (λ p. p.id) m.pools → brings_new m c ≡ true
-    → length (pools_there m c) ≡ length (pools_kept m c) + length (fold (put (λ p. p.id)) [] c.new_pools)
+    → length (pools_there m c) ≡ length (pools_kept m c) + length (fold (put (λ p. p.id)) [] c.pools.come)
 unfolding pools_there brings_new pools_kept
 length-after m c rises new =
-    puts-apart (λ (q : PoolFacts). q.id) _ _ [] c.new_pools (rising-filter (λ (q : PoolFacts). q.id) _ m.pools rises) (λ i j d below inside. absurd (omega arith)) (λ k. or_false _) (omega arith) new
+    puts-apart (λ (q : PoolFacts). q.id) _ _ [] c.pools.come (rising-filter (λ (q : PoolFacts). q.id) _ m.pools rises) (λ i j d below inside. absurd (omega arith)) (λ k. or_false _) (omega arith) new
   where
     or_false : (b : Bool) → b ≡ (b || false)
     or_false b = grind arith
@@ -69,12 +69,12 @@ length-after m c rises new =
 -- ---- the pools that stay, as they are counted
 
 -- the pools kept are those that no old one names
-pub kept-is : (m : ClusterMap) (c : ChangeParts) → pools_kept m c ≡ filter (λ q. not (has_key (λ k. k) c.old_pools q.id)) m.pools
+pub kept-is : (m : ClusterMap) (c : ChangeParts) → pools_kept m c ≡ filter (λ q. not (has_key (λ k. k) c.pools.gone q.id)) m.pools
 unfolding pools_kept
 kept-is m c = refl
 
 -- all are where none goes
-pub kept-all : (m : ClusterMap) (c : ChangeParts) → c.old_pools ≡ [] → pools_kept m c ≡ m.pools
+pub kept-all : (m : ClusterMap) (c : ChangeParts) → c.pools.gone ≡ [] → pools_kept m c ≡ m.pools
 unfolding pools_kept
 kept-all m c none = rw none (all_stay m.pools)
   where
@@ -101,9 +101,9 @@ none-there (x ∷ xs) b is empty = absurd (both_ways _ (is_some (length xs)) (sy
     is_some n = grind (arith, nat_tests)
 
 -- those that stay keep their rules where these stay
-pub kept-ruled : (m : ClusterMap) (c : ChangeParts) → HoldsTogether m → c.new_crush ≡ None → true ≡ list_all (has_rule (rules_after m c)) (pools_kept m c)
+pub kept-ruled : (m : ClusterMap) (c : ChangeParts) → HoldsTogether m → c.crush ≡ None → true ≡ list_all (has_rule (rules_after m c)) (pools_kept m c)
 unfolding pools_kept
-kept-ruled m c holds none = rw none (all-kept (has_rule m.rules) (λ (q : PoolFacts). not (has_key (λ k. k) c.old_pools q.id)) m.pools holds.ruled)
+kept-ruled m c holds none = rw none (all-kept (has_rule m.rules) (λ (q : PoolFacts). not (has_key (λ k. k) c.pools.gone q.id)) m.pools holds.ruled)
 
 -- none grows where there are no growths
 pub grown-none : (ps : List PoolFacts) → map (with_growths []) ps ≡ ps
@@ -115,12 +115,12 @@ grown-none (p ∷ ps) = ap (λ qs. p ∷ qs) (grown-none ps)
 pub kept-few : (m : ClusterMap) (c : ChangeParts) → length (pools_kept m c) ≤ length m.pools
 unfolding pools_kept
 kept-few m c =
-    let stays : PoolFacts → Bool = λ q. not (has_key (λ k. k) c.old_pools q.id) in
+    let stays : PoolFacts → Bool = λ q. not (has_key (λ k. k) c.pools.gone q.id) in
     omega (arith, length-filter_both stays (λ q. not (stays q)) (λ q. refl) m.pools)
 
 -- there are at most so many pools where no more come than have room
 pub rightly-counted : (m : ClusterMap) (c : ChangeParts) (most k n : ℕ) → IsRising (λ p. p.id) m.pools → brings_new m c ≡ true
-    → k ≡ length (pools_kept m c) → n ≡ length (fold (put (λ p. p.id)) [] c.new_pools) → k ≤ most → leb n (most - k) ≡ leb (length (pools_there m c)) most
+    → k ≡ length (pools_kept m c) → n ≡ length (fold (put (λ p. p.id)) [] c.pools.come) → k ≤ most → leb n (most - k) ≡ leb (length (pools_there m c)) most
 rightly-counted m c most k n rises new kept come few = rw (length-after m c rises new, ← kept, ← come) (grind (arith, nat_tests))
 
 -- and more than so many where more stay

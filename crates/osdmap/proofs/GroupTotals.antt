@@ -67,16 +67,16 @@ with_growths-total : (gs : List Growth) (ps : List PoolFacts) → total_groups (
 with_growths-total gs ps = sum_by-map (λ (q : PoolFacts). q.pg_num) (with_growths gs) ps
 
 -- where no pool comes twice, the pools after a change have the groups of those that stay and of those that come
-pub total_after : (m : ClusterMap) (c : ChangeParts) → brings_new m c ≡ true → is_distinct (map (λ p. p.id) c.new_pools) ≡ true
-    → total_groups (pools_after m c) ≡ total_groups (map (with_growths c.grow_pool) (pools_kept m c)) + total_groups (map (with_growths c.grow_pool) c.new_pools)
+pub total_after : (m : ClusterMap) (c : ChangeParts) → brings_new m c ≡ true → is_distinct (map (λ p. p.id) c.pools.come) ≡ true
+    → total_groups (pools_after m c) ≡ total_groups (map (with_growths c.pools.grow) (pools_kept m c)) + total_groups (map (with_growths c.pools.grow) c.pools.come)
 unfolding pools_after pools_there brings_new
 total_after m c new once =
-    with_growths-total c.grow_pool (fold (put (λ (p : PoolFacts). p.id)) (pools_kept m c) c.new_pools)
-    ∙ sum-puts (λ (p : PoolFacts). p.id) (grown_groups c.grow_pool) (pools_kept m c) c.new_pools once new
-    ∙ rw (with_growths-total c.grow_pool (pools_kept m c), with_growths-total c.grow_pool c.new_pools) refl
+    with_growths-total c.pools.grow (fold (put (λ (p : PoolFacts). p.id)) (pools_kept m c) c.pools.come)
+    ∙ sum-puts (λ (p : PoolFacts). p.id) (grown_groups c.pools.grow) (pools_kept m c) c.pools.come once new
+    ∙ rw (with_growths-total c.pools.grow (pools_kept m c), with_growths-total c.pools.grow c.pools.come) refl
 
 -- a change of which no key stands twice leaves so few
-pub few-groups-after : (m : ClusterMap) (c : ChangeParts) → leaves_few_groups m c ≡ true → is_distinct (map (λ p. p.id) c.new_pools) ≡ true
+pub few-groups-after : (m : ClusterMap) (c : ChangeParts) → leaves_few_groups m c ≡ true → is_distinct (map (λ p. p.id) c.pools.come) ≡ true
     → total_groups (pools_after m c) ≤ 1048576
 unfolding leaves_few_groups
 few-groups-after m c few once = let fits : nat_le (total_groups (pools_after m c)) 1048576 ≡ true = rw once at few in grind (arith, nat_tests, fits)
@@ -103,8 +103,8 @@ none-with_growths [] = refl
 none-with_growths (p ∷ ps) = rw (none-with_growths ps) refl
 
 -- where none comes or grows, there are as few groups as before
-pub few_stay : (m : ClusterMap) (c : ChangeParts) → c.new_pools ≡ [] → c.grow_pool ≡ [] → total_groups m.pools ≤ 1048576 → leaves_few_groups m c ≡ true
+pub few_stay : (m : ClusterMap) (c : ChangeParts) → c.pools.come ≡ [] → c.pools.grow ≡ [] → total_groups m.pools ≤ 1048576 → leaves_few_groups m c ≡ true
 unfolding leaves_few_groups pools_after pools_there pools_kept is_distinct
 few_stay m c none same few =
-    let less = sum-filter (λ (p : PoolFacts). p.pg_num) (λ p. not (has_key (λ (id : ℕ). id) c.old_pools p.id)) m.pools in
-    rw (none, same, none-with_growths (filter (λ p. not (has_key (λ (id : ℕ). id) c.old_pools p.id)) m.pools)) (grind (arith, nat_tests, few, less))
+    let less = sum-filter (λ (p : PoolFacts). p.pg_num) (λ p. not (has_key (λ (id : ℕ). id) c.pools.gone p.id)) m.pools in
+    rw (none, same, none-with_growths (filter (λ p. not (has_key (λ (id : ℕ). id) c.pools.gone p.id)) m.pools)) (grind (arith, nat_tests, few, less))

@@ -60,7 +60,7 @@ exists-ups up ps (osd ∷ osds) n = exists-ups up (with_up up ps osd) osds n ∙
 -- no OSD begins or ends with a change
 pub exists-after : (m : ClusterMap) (step : Step) (n : ℕ) → osd_exists (apply m step) n ≡ osd_exists m n
 unfolding apply
-exists-after m step n = exists-ups true (fold (with_up false) m.presences step.change.down) step.change.up n ∙ exists-ups false m.presences step.change.down n
+exists-after m step n = exists-ups true (fold (with_up false) m.presences step.change.osds.down) step.change.osds.up n ∙ exists-ups false m.presences step.change.osds.down n
 
 -- a list whose entries all pass does so with another that passes
 list_all-set : {X : Type 0} (p : X → Bool) (xs : List X) (i : ℕ) (x : X) → p x ≡ true → list_all p xs ≡ true → list_all p (set xs i x) ≡ true
@@ -84,14 +84,14 @@ present-ups ps (osd ∷ osds) there all =
 
 -- so it is after a change's down and up
 present-after : (m : ClusterMap) (step : Step) → names_osds m step.change ≡ true → list_all is_presence m.presences ≡ true
-    → list_all is_presence (fold (with_up true) (fold (with_up false) m.presences step.change.down) step.change.up) ≡ true
+    → list_all is_presence (fold (with_up true) (fold (with_up false) m.presences step.change.osds.down) step.change.osds.up) ≡ true
 unfolding names_osds
 present-after m step names all =
-    let down = fold (with_up false) m.presences step.change.down in
-    let there : list_all (osd_exists m) step.change.up ≡ true = grind (arith, names) in
-    present-ups down step.change.up
-    (list_all-agree (is_there down) (osd_exists m) (exists-ups false m.presences step.change.down) step.change.up ∙ there)
-    (present-downs m.presences step.change.down all)
+    let down = fold (with_up false) m.presences step.change.osds.down in
+    let there : list_all (osd_exists m) step.change.osds.up ≡ true = grind (arith, names) in
+    present-ups down step.change.osds.up
+    (list_all-agree (is_there down) (osd_exists m) (exists-ups false m.presences step.change.osds.down) step.change.osds.up ∙ there)
+    (present-downs m.presences step.change.osds.down all)
 
 -- reweights of at most 65,536 put in leave all so
 little-weights : (weights : List ℕ) (ws : List Reweight) → list_all (λ w. nat_le w.weight 65536) ws ≡ true → list_all (λ w. nat_le w 65536) weights ≡ true
@@ -102,9 +102,9 @@ little-weights weights (w ∷ ws) little all =
     (list_all-set (λ n. nat_le n 65536) weights w.osd w.weight (and_first (nat_le w.weight 65536) (list_all (λ v. nat_le v.weight 65536) ws) little) all)
 
 -- so does a change that is accepted
-little-after : (m : ClusterMap) (c : ChangeParts) → weighs_rightly c ≡ true → list_all (λ w. nat_le w 65536) m.weights ≡ true → list_all (λ w. nat_le w 65536) (fold with_weight m.weights c.weight) ≡ true
+little-after : (m : ClusterMap) (c : ChangeParts) → weighs_rightly c ≡ true → list_all (λ w. nat_le w 65536) m.weights ≡ true → list_all (λ w. nat_le w 65536) (fold with_weight m.weights c.weights) ≡ true
 unfolding weighs_rightly
-little-after m c rightly all = little-weights m.weights c.weight rightly all
+little-after m c rightly all = little-weights m.weights c.weights rightly all
 
 -- ---- pools
 
@@ -121,13 +121,13 @@ module _ {X : Type 0} (key : X → ℕ) where
 
 -- a pool that stays is there as before, where no pool comes whose id stays
 pub pool-stays : (m : ClusterMap) (c : ChangeParts) (id : ℕ) (p : PoolFacts) → brings_new m c ≡ true → entry_at (λ q. q.id) m.pools id ≡ Some p
-    → has_key (λ k. k) c.old_pools id ≡ false → entry_at (λ q. q.id) (pools_there m c) id ≡ Some p
+    → has_key (λ k. k) c.pools.gone id ≡ false → entry_at (λ q. q.id) (pools_there m c) id ≡ Some p
 unfolding pools_there pools_kept brings_new
 pool-stays m c id p new there stays =
-    let kept : entry_at (λ q. q.id) (filter (λ q. not (has_key (λ k. k) c.old_pools q.id)) m.pools) id ≡ Some p =
-    entry-without (λ (q : PoolFacts). q.id) (λ (k : ℕ). k) c.old_pools m.pools id ∙ rw (stays, there) refl in
-    let has : has_key (λ q. q.id) (filter (λ q. not (has_key (λ k. k) c.old_pools q.id)) m.pools) id ≡ true = has-entry (λ (q : PoolFacts). q.id) _ id ∙ rw kept refl in
-    entry-apart (λ (q : PoolFacts). q.id) _ _ c.new_pools id new has ∙ kept
+    let kept : entry_at (λ q. q.id) (filter (λ q. not (has_key (λ k. k) c.pools.gone q.id)) m.pools) id ≡ Some p =
+    entry-without (λ (q : PoolFacts). q.id) (λ (k : ℕ). k) c.pools.gone m.pools id ∙ rw (stays, there) refl in
+    let has : has_key (λ q. q.id) (filter (λ q. not (has_key (λ k. k) c.pools.gone q.id)) m.pools) id ≡ true = has-entry (λ (q : PoolFacts). q.id) _ id ∙ rw kept refl in
+    entry-apart (λ (q : PoolFacts). q.id) _ _ c.pools.come id new has ∙ kept
 
 -- ---- exceptions
 
@@ -136,18 +136,18 @@ all_named-agree : {E : Type 0} (names : E → List ℕ) (p q : ℕ → Bool) →
 all_named-agree names p q same e = list_all-agree _ _ (λ entry. list_all-agree _ _ same (names entry)) e.entries
 
 module _ {E : Type 0} (names : E → List ℕ) (sound : List E → Bool) (m : ClusterMap) (step : Step) (new : brings_new m step.change ≡ true)
-    (grow : list_all (grows_from (pools_there m step.change)) step.change.grow_pool ≡ true) where
+    (grow : list_all (grows_from (pools_there m step.change)) step.change.pools.grow ≡ true) where
   -- an exception that stays is sound as before
-  exception-stays : (gone : List Pg) (e : Exception E) → is_exception names sound m.pools (osd_exists m) e ≡ true → stays step.change.old_pools gone e ≡ true
+  exception-stays : (gone : List Pg) (e : Exception E) → is_exception names sound m.pools (osd_exists m) e ≡ true → stays step.change.pools.gone gone e ≡ true
       → is_exception names sound (pools_there m step.change) (osd_exists (apply m step)) e ≡ true
   exception-stays gone e holds stay =
-      let open_pool = not_true _ (and_first (not (has_key (λ id. id) step.change.old_pools e.pg.pool)) (not (is_among gone e.pg)) stay) in
+      let open_pool = not_true _ (and_first (not (has_key (λ id. id) step.change.pools.gone e.pg.pool)) (not (is_among gone e.pg)) stay) in
       let there = and_first (has_group m.pools e.pg) (all_named names (osd_exists m) e) (and_first (has_group m.pools e.pg && all_named names (osd_exists m) e) (is_sound sound m.pools e) holds) in
       let same : entry_at (λ q. q.id) (pools_there m step.change) e.pg.pool ≡ entry_at (λ q. q.id) m.pools e.pg.pool = by_pool (entry_at (λ q. q.id) m.pools e.pg.pool) refl there open_pool in
       rw (same, all_named-agree names (osd_exists m) (osd_exists (apply m step)) (exists-after m step) e) holds
     where
       by_pool : (o : Option PoolFacts) → entry_at (λ q. q.id) m.pools e.pg.pool ≡ o → option_map_or (λ p. nat_lt e.pg.number p.pg_num) (entry_at (λ q. q.id) m.pools e.pg.pool) false ≡ true
-          → has_key (λ id. id) step.change.old_pools e.pg.pool ≡ false → entry_at (λ q. q.id) (pools_there m step.change) e.pg.pool ≡ entry_at (λ q. q.id) m.pools e.pg.pool
+          → has_key (λ id. id) step.change.pools.gone e.pg.pool ≡ false → entry_at (λ q. q.id) (pools_there m step.change) e.pg.pool ≡ entry_at (λ q. q.id) m.pools e.pg.pool
       by_pool None is there open_pool = absurd (false≢true (rw is at there))
       by_pool (Some p) is there open_pool = pool-stays m step.change e.pg.pool p new is open_pool ∙ sym is
 
@@ -170,22 +170,22 @@ module _ {E : Type 0} (names : E → List ℕ) (sound : List E → Bool) (m : Cl
   pub exceptions-sound : (gone : List Pg) (coming es : List (Exception E)) → list_all (is_exception names sound m.pools (osd_exists m)) es ≡ true
       → list_all (all_named names (osd_exists m)) coming ≡ true → list_all (λ e. has_group (pools_after m step.change) e.pg) coming ≡ true
       → list_all (is_sound sound (pools_after m step.change)) coming ≡ true
-      → list_all (is_exception names sound (pools_after m step.change) (osd_exists (apply m step))) (exceptions_after step.change.old_pools gone coming es) ≡ true
+      → list_all (is_exception names sound (pools_after m step.change) (osd_exists (apply m step))) (exceptions_after step.change.pools.gone gone coming es) ≡ true
   unfolding exceptions_after pools_after
   exceptions-sound gone coming es all named there soundly =
       list_all-puts key_of _ _ coming (list_all-filter _ _ _ (λ e holds stay. in_grown e (exception-stays gone e holds stay)) es all) (exceptions-come coming named there soundly)
     where
       in_grown : (e : Exception E) → is_exception names sound (pools_there m step.change) (osd_exists (apply m step)) e ≡ true → is_exception names sound (pools_after m step.change) (osd_exists (apply m step)) e ≡ true
-      in_grown e h = exception_grows step.change.grow_pool (pools_there m step.change) grow names sound (osd_exists (apply m step)) e h
+      in_grown e h = exception_grows step.change.pools.grow (pools_there m step.change) grow names sound (osd_exists (apply m step)) e h
 
 -- ---- all of it
 
 -- what the tests of the pools found
 record Rightly (m : ClusterMap) (c : ChangeParts) : Type 0 where
   pub kept : list_all (has_rule (rules_after m c)) (pools_kept m c) ≡ true
-  pub new : list_all (has_rule (rules_after m c)) c.new_pools ≡ true
+  pub new : list_all (has_rule (rules_after m c)) c.pools.come ≡ true
   pub few : nat_le (length (pools_there m c)) (most_pools c.profile) ≡ true
-  pub grow : list_all (grows_from (pools_there m c)) c.grow_pool ≡ true
+  pub grow : list_all (grows_from (pools_there m c)) c.pools.grow ≡ true
   pub groups : leaves_few_groups m c ≡ true
 
 -- pools that come rightly pass each test of it
@@ -207,28 +207,28 @@ few-after m c rightly = rw length-map (most_few c.profile (length (pools_there m
 groups-after : (m : ClusterMap) (c : ChangeParts) → Rightly m c → names_once c ≡ true → total_groups (pools_after m c) ≤ 1048576
 unfolding names_once
 groups-after m c rightly once =
-    let ids = map (λ (p : PoolFacts). p.id) c.new_pools in
-    let both : is_distinct (map (λ (id : ℕ). id) c.old_pools ++ ids) ≡ true = grind (arith, once) in
-    let parts : ((is_distinct (map (λ (id : ℕ). id) c.old_pools) && is_distinct ids) && not (list_any (λ k. list_any (λ j. j == k) ids) (map (λ (id : ℕ). id) c.old_pools))) ≡ true =
-    sym (distinct-append (map (λ (id : ℕ). id) c.old_pools) ids) ∙ both in
+    let ids = map (λ (p : PoolFacts). p.id) c.pools.come in
+    let both : is_distinct (map (λ (id : ℕ). id) c.pools.gone ++ ids) ≡ true = grind (arith, once) in
+    let parts : ((is_distinct (map (λ (id : ℕ). id) c.pools.gone) && is_distinct ids) && not (list_any (λ k. list_any (λ j. j == k) ids) (map (λ (id : ℕ). id) c.pools.gone))) ≡ true =
+    sym (distinct-append (map (λ (id : ℕ). id) c.pools.gone) ids) ∙ both in
     few-groups-after m c rightly.groups (grind (arith, parts))
 
 -- each has its rule
 ruled-after : (m : ClusterMap) (c : ChangeParts) → Rightly m c → list_all (has_rule (rules_after m c)) (pools_after m c) ≡ true
 unfolding pools_after pools_there
 ruled-after m c rightly =
-    list_all-with_growths c.grow_pool (rules_after m c) (pools_there m c) ∙ list_all-puts (λ (q : PoolFacts). q.id) (has_rule (rules_after m c)) _ c.new_pools rightly.kept rightly.new
+    list_all-with_growths c.pools.grow (rules_after m c) (pools_there m c) ∙ list_all-puts (λ (q : PoolFacts). q.id) (has_rule (rules_after m c)) _ c.pools.come rightly.kept rightly.new
 
 -- each is within its limits
-within-after : (m : ClusterMap) (c : ChangeParts) → All IsWithinLimits c.new_pools → All IsGrowth c.grow_pool → All IsWithinLimits m.pools → All IsWithinLimits (pools_after m c)
+within-after : (m : ClusterMap) (c : ChangeParts) → All IsWithinLimits c.pools.come → All IsGrowth c.pools.grow → All IsWithinLimits m.pools → All IsWithinLimits (pools_after m c)
 unfolding pools_after pools_there pools_kept
 within-after m c new growths within =
-    within-with_growths c.grow_pool _ growths (All-puts (λ (q : PoolFacts). q.id) IsWithinLimits _ c.new_pools (All-filter _ IsWithinLimits m.pools within) new)
+    within-with_growths c.pools.grow _ growths (All-puts (λ (q : PoolFacts). q.id) IsWithinLimits _ c.pools.come (All-filter _ IsWithinLimits m.pools within) new)
 
 -- and they rise by id
 pools-rise : (m : ClusterMap) (c : ChangeParts) → IsRising (λ p. p.id) m.pools → IsRising (λ p. p.id) (pools_after m c)
 unfolding pools_after pools_there pools_kept
-pools-rise m c rises = rising-with_growths c.grow_pool _ (rising-puts (λ (q : PoolFacts). q.id) _ c.new_pools (rising-filter (λ (q : PoolFacts). q.id) _ m.pools rises))
+pools-rise m c rises = rising-with_growths c.pools.grow _ (rising-puts (λ (q : PoolFacts). q.id) _ c.pools.come (rising-filter (λ (q : PoolFacts). q.id) _ m.pools rises))
 
 -- what holds of the forest and the rules after a change
 record CrushKept (m : ClusterMap) (c : ChangeParts) : Type 0 where
@@ -236,12 +236,12 @@ record CrushKept (m : ClusterMap) (c : ChangeParts) : Type 0 where
   pub over_osds : forest_ok (buckets_after m c) (length m.presences) ≡ true
 
 -- the forest and the rules after a change are right ones
-crush-after : (m : ClusterMap) (c : ChangeParts) → IfSome c.new_crush IsCrushMap → brings_forest m c ≡ true → HoldsTogether m → CrushKept m c
+crush-after : (m : ClusterMap) (c : ChangeParts) → IfSome c.crush IsCrushMap → brings_forest m c ≡ true → HoldsTogether m → CrushKept m c
 unfolding brings_forest
-crush-after m c lawful below holds = by_crush c.new_crush lawful below
+crush-after m c lawful below holds = by_crush c.crush lawful below
   where
     by_crush : (o : Option CrushFacts) → IfSome o IsCrushMap → option_map_or (λ k. has_devices_below (length m.presences) k.buckets) o true ≡ true
-        → CrushKept m (record c { new_crush = o })
+        → CrushKept m (record c { crush = o })
     by_crush None lawful' below' = record { crush = holds.crush; over_osds = holds.over_osds }
     by_crush (Some k) lawful' below' = record { crush = lawful'; over_osds = over_devices k.buckets (length m.presences) lawful'.forest below' }
 
@@ -252,22 +252,22 @@ exceptions-rise old_pools gone coming es rises = rising-puts key_of _ coming (ri
 
 -- the explicit sets after an accepted change are right ones
 explicit-after : (m : ClusterMap) (step : Step) → Accepted m step.change → HoldsTogether m
-    → list_all (is_exception target is_set (pools_after m step.change) (osd_exists (apply m step))) (exceptions_after step.change.old_pools step.change.old_upmap step.change.new_upmap m.explicit) ≡ true
+    → list_all (is_exception target is_set (pools_after m step.change) (osd_exists (apply m step))) (exceptions_after step.change.pools.gone step.change.explicit.gone step.change.explicit.come m.explicit) ≡ true
 unfolding names_osds names_groups all_named_groups excepts_soundly
 explicit-after m step ok holds =
-    exceptions-sound target is_set m step ok.new (rightly-each m step.change ok.rightly).grow step.change.old_upmap step.change.new_upmap m.explicit holds.explicit.sound (grind (arith, ok.osds)) (grind (arith, ok.groups)) (grind (arith, ok.sound))
+    exceptions-sound target is_set m step ok.new (rightly-each m step.change ok.rightly).grow step.change.explicit.gone step.change.explicit.come m.explicit holds.explicit.sound (grind (arith, ok.osds)) (grind (arith, ok.groups)) (grind (arith, ok.sound))
 
 -- so are the pairs
 items-after : (m : ClusterMap) (step : Step) → Accepted m step.change → HoldsTogether m
-    → list_all (is_exception sides are_pairs (pools_after m step.change) (osd_exists (apply m step))) (exceptions_after step.change.old_pools step.change.old_items step.change.new_items m.items) ≡ true
+    → list_all (is_exception sides are_pairs (pools_after m step.change) (osd_exists (apply m step))) (exceptions_after step.change.pools.gone step.change.items.gone step.change.items.come m.items) ≡ true
 unfolding names_osds names_groups all_named_groups excepts_soundly
 items-after m step ok holds =
-    exceptions-sound sides are_pairs m step ok.new (rightly-each m step.change ok.rightly).grow step.change.old_items step.change.new_items m.items holds.items.sound (grind (arith, ok.osds)) (grind (arith, ok.groups)) (grind (arith, ok.sound))
+    exceptions-sound sides are_pairs m step ok.new (rightly-each m step.change ok.rightly).grow step.change.items.gone step.change.items.come m.items holds.items.sound (grind (arith, ok.osds)) (grind (arith, ok.groups)) (grind (arith, ok.sound))
 
 -- there is a reweight for each OSD as before
 weights-after : (m : ClusterMap) (step : Step) → length (apply m step).weights ≡ length m.weights
 unfolding apply
-weights-after m step = length-with_weight m.weights step.change.weight
+weights-after m step = length-with_weight m.weights step.change.weights
 
 -- the map after a change that is not refused holds together
 pub HoldsTogether-after : (m : ClusterMap) (step : Step) → change_fault m step.change ≡ None → IsChange step.change → HoldsTogether m → HoldsTogether (apply m step)
@@ -294,11 +294,11 @@ HoldsTogether-after m step lawful is holds =
       };
       ruled = ruled-after m step.change rightly;
       explicit = record {
-        rise = exceptions-rise step.change.old_pools step.change.old_upmap step.change.new_upmap m.explicit holds.explicit.rise;
+        rise = exceptions-rise step.change.pools.gone step.change.explicit.gone step.change.explicit.come m.explicit holds.explicit.rise;
         sound = explicit-after m step ok holds;
       };
       items = record {
-        rise = exceptions-rise step.change.old_pools step.change.old_items step.change.new_items m.items holds.items.rise;
+        rise = exceptions-rise step.change.pools.gone step.change.items.gone step.change.items.come m.items holds.items.rise;
         sound = items-after m step ok holds;
       };
     }
@@ -320,11 +320,11 @@ pub record Changed (m : ClusterMap) (step : Step) (made : ClusterMap) : Type 0 w
   pub epoch : made.epoch ≡ step.epoch
   pub buckets : made.buckets ≡ buckets_after m step.change
   pub rules : made.rules ≡ rules_after m step.change
-  pub pools : made.pools ≡ map (with_growths step.change.grow_pool) (fold (put (λ p. p.id)) (filter (λ p. not (has_key (λ id. id) step.change.old_pools p.id)) m.pools) step.change.new_pools)
-  pub presences : made.presences ≡ fold (with_up true) (fold (with_up false) m.presences step.change.down) step.change.up
-  pub weights : made.weights ≡ fold with_weight m.weights step.change.weight
-  pub explicit : made.explicit ≡ exceptions_after step.change.old_pools step.change.old_upmap step.change.new_upmap m.explicit
-  pub items : made.items ≡ exceptions_after step.change.old_pools step.change.old_items step.change.new_items m.items
+  pub pools : made.pools ≡ map (with_growths step.change.pools.grow) (fold (put (λ p. p.id)) (filter (λ p. not (has_key (λ id. id) step.change.pools.gone p.id)) m.pools) step.change.pools.come)
+  pub presences : made.presences ≡ fold (with_up true) (fold (with_up false) m.presences step.change.osds.down) step.change.osds.up
+  pub weights : made.weights ≡ fold with_weight m.weights step.change.weights
+  pub explicit : made.explicit ≡ exceptions_after step.change.pools.gone step.change.explicit.gone step.change.explicit.come m.explicit
+  pub items : made.items ≡ exceptions_after step.change.pools.gone step.change.items.gone step.change.items.come m.items
 
 -- a map changed part by part is the one after the change
 pub assembled : (m : ClusterMap) (step : Step) (made : ClusterMap) → Changed m step made → made ≡ apply m step

@@ -26,17 +26,17 @@ all_more p q (x ∷ xs) more h = rw (more x (and_first (p x) (list_all p xs) h),
 
 -- the parts of what names only OSDs that exist
 pub record AllBelow (n : ℕ) (c : ChangeParts) : Type 0 where
-  pub down : are_below (λ osd. osd) n c.down ≡ true
-  pub up : are_below (λ osd. osd) n c.up ≡ true
-  pub weight : are_below (λ w. w.osd) n c.weight ≡ true
+  pub down : are_below (λ osd. osd) n c.osds.down ≡ true
+  pub up : are_below (λ osd. osd) n c.osds.up ≡ true
+  pub weight : are_below (λ w. w.osd) n c.weights ≡ true
 
 -- the OSDs that an accepted change names are below the number of OSDs
 pub all_below : (m : ClusterMap) (c : ChangeParts) (n : ℕ) → length m.presences ≤ n → names_osds m c ≡ true → AllBelow n c
 unfolding names_osds
 all_below m c n most h = record {
-  down = all_more _ _ c.down (λ osd. below_max m osd n most) (grind (arith, h));
-  up = all_more _ _ c.up (λ osd. below_max m osd n most) (grind (arith, h));
-  weight = all_more _ _ c.weight (λ w. below_max m w.osd n most) (grind (arith, h));
+  down = all_more _ _ c.osds.down (λ osd. below_max m osd n most) (grind (arith, h));
+  up = all_more _ _ c.osds.up (λ osd. below_max m osd n most) (grind (arith, h));
+  weight = all_more _ _ c.weights (λ w. below_max m w.osd n most) (grind (arith, h));
 }
 
 -- a change that nothing refuses names only OSDs that exist

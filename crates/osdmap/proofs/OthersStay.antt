@@ -77,33 +77,33 @@ placed_alike m other ws p n buckets rules weights holds has none = rw (buckets, 
         (λ osd reached. sym (weight_stays m.weights ws osd (unreached (λ o. paths.reaches m.buckets r.rule.steps (pos o)) ws osd reached nowhere))))
 
 -- the forest and the rules stay where none come
-buckets_stay : (m : ClusterMap) (step : Step) → step.change.new_crush ≡ None → (apply m step).buckets ≡ m.buckets
+buckets_stay : (m : ClusterMap) (step : Step) → step.change.crush ≡ None → (apply m step).buckets ≡ m.buckets
 unfolding apply
 buckets_stay m step none = rw none refl
 
 -- without a new CRUSH map the rules stay
-rules_stay : (m : ClusterMap) (step : Step) → step.change.new_crush ≡ None → (apply m step).rules ≡ m.rules
+rules_stay : (m : ClusterMap) (step : Step) → step.change.crush ≡ None → (apply m step).rules ≡ m.rules
 unfolding apply
 rules_stay m step none = rw none refl
 
 -- the reweights after a change are those of its entries put over the ones before
-weights_are : (m : ClusterMap) (step : Step) → (apply m step).weights ≡ fold with_weight m.weights step.change.weight
+weights_are : (m : ClusterMap) (step : Step) → (apply m step).weights ≡ fold with_weight m.weights step.change.weights
 unfolding apply
 weights_are m step = refl
 
 -- a rule that reaches no reweighted OSD after a change reached none before
-unreached_before : (m other : ClusterMap) (c : ChangeParts) (p : PoolFacts) → other.buckets ≡ m.buckets → other.rules ≡ m.rules → reaches_reweighted other c p ≡ false → list_any (λ w. paths.reaches m.buckets (steps_of m p) (pos w.osd)) c.weight ≡ false
+unreached_before : (m other : ClusterMap) (c : ChangeParts) (p : PoolFacts) → other.buckets ≡ m.buckets → other.rules ≡ m.rules → reaches_reweighted other c p ≡ false → list_any (λ w. paths.reaches m.buckets (steps_of m p) (pos w.osd)) c.weights ≡ false
 unfolding reaches_reweighted
 unreached_before m other c p buckets rules none =
-    subst (λ (rs : List NumberedRule). list_any (λ w. paths.reaches m.buckets (option_map_or (λ r. r.steps) (rule_at rs p.rule) []) (pos w.osd)) c.weight ≡ false) rules
-    (subst (λ (bs : List Bucket). list_any (λ w. paths.reaches bs (steps_of other p) (pos w.osd)) c.weight ≡ false) buckets none)
+    subst (λ (rs : List NumberedRule). list_any (λ w. paths.reaches m.buckets (option_map_or (λ r. r.steps) (rule_at rs p.rule) []) (pos w.osd)) c.weights ≡ false) rules
+    (subst (λ (bs : List Bucket). list_any (λ w. paths.reaches bs (steps_of other p) (pos w.osd)) c.weights ≡ false) buckets none)
 
 -- a rule that reaches no reweighted OSD places a group as before
-placed_stays : (m : ClusterMap) (step : Step) (p : PoolFacts) (n : ℕ) → HoldsTogether m → has_rule m.rules p ≡ true → step.change.new_crush ≡ None → reaches_reweighted (apply m step) step.change p ≡ false → placed_devices m p n ≡ placed_devices (apply m step) p n
+placed_stays : (m : ClusterMap) (step : Step) (p : PoolFacts) (n : ℕ) → HoldsTogether m → has_rule m.rules p ≡ true → step.change.crush ≡ None → reaches_reweighted (apply m step) step.change p ≡ false → placed_devices m p n ≡ placed_devices (apply m step) p n
 placed_stays m step p n holds has same none =
     let buckets = buckets_stay m step same in
     let rules = rules_stay m step same in
-    placed_alike m (apply m step) step.change.weight p n buckets rules (weights_are m step) holds has (unreached_before m (apply m step) step.change p buckets rules none)
+    placed_alike m (apply m step) step.change.weights p n buckets rules (weights_are m step) holds has (unreached_before m (apply m step) step.change p buckets rules none)
 
 -- who exists is the same before and after a change
 existing_stays : (m : ClusterMap) (step : Step) (x : Option ℤ) → option_and_then (existing_osd m) x ≡ option_and_then (existing_osd (apply m step)) x
@@ -112,7 +112,7 @@ existing_stays m step (Some (pos osd)) = rw (exists-after m step osd) refl
 existing_stays m step (Some (negsuc n)) = refl
 
 -- the raw set of a group stays where no forest comes and the pool's rule reaches no OSD that gets another reweight
-pub raw_stays : (m : ClusterMap) (step : Step) (p : PoolFacts) (n : ℕ) → HoldsTogether m → has_rule m.rules p ≡ true → step.change.new_crush ≡ None → reaches_reweighted (apply m step) step.change p ≡ false → raw_set m p n ≡ raw_set (apply m step) p n
+pub raw_stays : (m : ClusterMap) (step : Step) (p : PoolFacts) (n : ℕ) → HoldsTogether m → has_rule m.rules p ≡ true → step.change.crush ≡ None → reaches_reweighted (apply m step) step.change p ≡ false → raw_set m p n ≡ raw_set (apply m step) p n
 unfolding raw_set
 raw_stays m step p n holds has same none =
     let first = map-agree (option_and_then (existing_osd m)) (option_and_then (existing_osd (apply m step))) (existing_stays m step) (placed_devices m p n) in
@@ -162,9 +162,9 @@ weights_agree : (m : ClusterMap) (step : Step) (g : Pg) → IsUnconcerned (apply
     → Agree m.weights (apply m step).weights (unwrap_or (said_of m.explicit g) [] ++ flat_map sides (unwrap_or (said_of m.items g) []))
 unfolding apply
 weights_agree m step g none explicit items =
-    All-append (IsSame m.weights step.change.weight) (unwrap_or (said_of m.explicit g) []) (flat_map sides (unwrap_or (said_of m.items g) []))
-    (explicit_agree m.weights step.change.weight step.change (said_of m.explicit g) refl (rw explicit at none.explicit))
-    (items_agree m.weights step.change.weight step.change (said_of m.items g) refl (rw items at none.items))
+    All-append (IsSame m.weights step.change.weights) (unwrap_or (said_of m.explicit g) []) (flat_map sides (unwrap_or (said_of m.items g) []))
+    (explicit_agree m.weights step.change.weights step.change (said_of m.explicit g) refl (rw explicit at none.explicit))
+    (items_agree m.weights step.change.weights step.change (said_of m.items g) refl (rw items at none.items))
 
 -- a group of the map after a change that is not among the evaluations of the change was there, with the same mapped set
 pub others_stay : (m : ClusterMap) (step : Step) (p : PoolFacts) (n : ℕ) → HoldsTogether m → change_fault m step.change ≡ None → pool_at (apply m step).pools p.id ≡ Some p → n < p.pg_num

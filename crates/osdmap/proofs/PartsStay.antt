@@ -64,16 +64,16 @@ module _ {X : Type 0} (key : X → ℕ) where
 -- a pool among those kept was there, and is not among the old ones
 pool_kept : (m : ClusterMap) (c : ChangeParts) (id : ℕ) (p : PoolFacts) → entry_at (λ q. q.id) (pools_kept m c) id ≡ Some p → (loses c id ≡ false) × (pool_at m.pools id ≡ Some p)
 unfolding pools_kept
-pool_kept m c id p found = by_test (loses c id) refl (sym (entry-filter (λ (q : PoolFacts). q.id) (λ k. not (has_key (λ j. j) c.old_pools k)) m.pools id) ∙ found)
+pool_kept m c id p found = by_test (loses c id) refl (sym (entry-filter (λ (q : PoolFacts). q.id) (λ k. not (has_key (λ j. j) c.pools.gone k)) m.pools id) ∙ found)
   where
     by_test : (b : Bool) → loses c id ≡ b → cond (not (loses c id)) (pool_at m.pools id) None ≡ Some p → (loses c id ≡ false) × (pool_at m.pools id ≡ Some p)
     by_test true is h = let wrong : None ≡ Some p = rw is at h in absurd (cc)
     by_test false is h = (is, rw is at h)
 
 -- a pool that is there and no new one was kept
-pool_put : (m : ClusterMap) (c : ChangeParts) (id : ℕ) (p : PoolFacts) → has_key (λ q. q.id) c.new_pools id ≡ false → entry_at (λ q. q.id) (pools_there m c) id ≡ Some p → (loses c id ≡ false) × (pool_at m.pools id ≡ Some p)
+pool_put : (m : ClusterMap) (c : ChangeParts) (id : ℕ) (p : PoolFacts) → has_key (λ q. q.id) c.pools.come id ≡ false → entry_at (λ q. q.id) (pools_there m c) id ≡ Some p → (loses c id ≡ false) × (pool_at m.pools id ≡ Some p)
 unfolding pools_there
-pool_put m c id p none found = pool_kept m c id p (sym (entry_untouched (λ (q : PoolFacts). q.id) (pools_kept m c) c.new_pools id none) ∙ found)
+pool_put m c id p none found = pool_kept m c id p (sym (entry_untouched (λ (q : PoolFacts). q.id) (pools_kept m c) c.pools.come id none) ∙ found)
 
 -- where none of a list passes a test, each fails it
 all_fail : {X : Type 0} (p : X → Bool) (xs : List X) → list_any p xs ≡ false → All (λ x. p x ≡ false) xs
@@ -86,18 +86,18 @@ unfolding with_growths
 not_grown gs p none = rw (find-none_reverse (λ (g : Growth). eqb g.pool p.id) gs (all_fail (λ g. eqb g.pool p.id) gs none)) refl
 
 -- a pool after a change that is neither new nor grown was there before, and is not among the old ones
-pub pool_stays : (m : ClusterMap) (c : ChangeParts) (id : ℕ) (p : PoolFacts) → has_key (λ q. q.id) c.new_pools id ≡ false → has_key (λ g. g.pool) c.grow_pool id ≡ false → pool_at (pools_after m c) id ≡ Some p → (loses c id ≡ false) × (pool_at m.pools id ≡ Some p)
+pub pool_stays : (m : ClusterMap) (c : ChangeParts) (id : ℕ) (p : PoolFacts) → has_key (λ q. q.id) c.pools.come id ≡ false → has_key (λ g. g.pool) c.pools.grow id ≡ false → pool_at (pools_after m c) id ≡ Some p → (loses c id ≡ false) × (pool_at m.pools id ≡ Some p)
 unfolding pools_after
-pool_stays m c id p none stays found = by_pool (entry_at (λ q. q.id) (pools_there m c) id) refl (sym (entry-with_growths c.grow_pool (pools_there m c) id) ∙ found)
+pool_stays m c id p none stays found = by_pool (entry_at (λ q. q.id) (pools_there m c) id) refl (sym (entry-with_growths c.pools.grow (pools_there m c) id) ∙ found)
   where
-    by_pool : (o : Option PoolFacts) → entry_at (λ q. q.id) (pools_there m c) id ≡ o → option_map (with_growths c.grow_pool) (entry_at (λ q. q.id) (pools_there m c) id) ≡ Some p → (loses c id ≡ false) × (pool_at m.pools id ≡ Some p)
+    by_pool : (o : Option PoolFacts) → entry_at (λ q. q.id) (pools_there m c) id ≡ o → option_map (with_growths c.pools.grow) (entry_at (λ q. q.id) (pools_there m c) id) ≡ Some p → (loses c id ≡ false) × (pool_at m.pools id ≡ Some p)
     by_pool None is h = let wrong : None ≡ Some p = rw is at h in absurd (cc)
     by_pool (Some q) is h =
         let at = find-place (λ (r : PoolFacts). eqb r.id id) (pools_there m c) q is in
         let same_id : q.id ≡ id = eqb-true q.id id at.3 in
-        let same : Some (with_growths c.grow_pool q) ≡ Some p = rw is at h in
-        let ends : with_growths c.grow_pool q ≡ p = cc in
-        let as_is : with_growths c.grow_pool q ≡ q = not_grown c.grow_pool q (rw same_id stays) in
+        let same : Some (with_growths c.pools.grow q) ≡ Some p = rw is at h in
+        let ends : with_growths c.pools.grow q ≡ p = cc in
+        let as_is : with_growths c.pools.grow q ≡ q = not_grown c.pools.grow q (rw same_id stays) in
         let one : q ≡ p = sym as_is ∙ ends in
         pool_put m c id p none (is ∙ ap (λ x. Some x) one)
 
@@ -128,12 +128,12 @@ module _ {E : Type 0} (names : E → List ℕ) (sound : List E → Bool) (m : Cl
 -- the explicit set of a group that a change does not name stays, where its pool does
 pub explicit_stays : (m : ClusterMap) (step : Step) (g : Pg) → HoldsTogether m → g.number < 2 ^ 32 → loses step.change g.pool ≡ false → IsUnnamed step.change g → said_of (apply m step).explicit g ≡ said_of m.explicit g
 unfolding apply
-explicit_stays m step g holds few pool none = said_stays target _ m holds.pools.within step.change.old_pools step.change.old_upmap step.change.new_upmap m.explicit g few pool none.old_upmap none.new_upmap holds.explicit.sound
+explicit_stays m step g holds few pool none = said_stays target _ m holds.pools.within step.change.pools.gone step.change.explicit.gone step.change.explicit.come m.explicit g few pool none.explicit.gone none.explicit.come holds.explicit.sound
 
 -- so do its pairs
 pub items_stay : (m : ClusterMap) (step : Step) (g : Pg) → HoldsTogether m → g.number < 2 ^ 32 → loses step.change g.pool ≡ false → IsUnnamed step.change g → said_of (apply m step).items g ≡ said_of m.items g
 unfolding apply
-items_stay m step g holds few pool none = said_stays sides _ m holds.pools.within step.change.old_pools step.change.old_items step.change.new_items m.items g few pool none.old_items none.new_items holds.items.sound
+items_stay m step g holds few pool none = said_stays sides _ m holds.pools.within step.change.pools.gone step.change.items.gone step.change.items.come m.items g few pool none.items.gone none.items.come holds.items.sound
 
 -- ---- reweights
 
@@ -168,11 +168,11 @@ module _ (weights : List ℕ) (ws : List Reweight) where
       let to = sym (weight_stays weights ws pair.to (or_first (gets pair.to) false later)) in
       subst (All IsSame) (sym (flat_map-cons sides pair pairs)) (All-cons IsSame pair.from (pair.to ∷ flat_map sides pairs) from (All-cons IsSame pair.to (flat_map sides pairs) to rest))
 
-  pub explicit_agree : (c : ChangeParts) (said : Option (List ℕ)) → c.weight ≡ ws → names_reweighted target c said ≡ false → All IsSame (unwrap_or said [])
+  pub explicit_agree : (c : ChangeParts) (said : Option (List ℕ)) → c.weights ≡ ws → names_reweighted target c said ≡ false → All IsSame (unwrap_or said [])
   explicit_agree c None is none = All-nil IsSame
   explicit_agree c (Some osds) is none = targets_agree osds (rw is at none)
 
-  pub items_agree : (c : ChangeParts) (said : Option (List Pair)) → c.weight ≡ ws → names_reweighted sides c said ≡ false → All IsSame (flat_map sides (unwrap_or said []))
+  pub items_agree : (c : ChangeParts) (said : Option (List Pair)) → c.weights ≡ ws → names_reweighted sides c said ≡ false → All IsSame (flat_map sides (unwrap_or said []))
   items_agree c None is none = All-nil IsSame
   items_agree c (Some pairs) is none = sides_agree pairs (rw is at none)
 
@@ -192,19 +192,19 @@ none_grown (p ∷ ps) = ap (λ qs. p ∷ qs) (none_grown ps)
 -- so the pools stay
 pub pools_left : (m : ClusterMap) (step : Step) → LeavesRawSets step.change → (apply m step).pools ≡ m.pools
 unfolding apply pools_after pools_there pools_kept
-pools_left m step s = rw (s.grow_pool, s.new_pools, s.old_pools) (none_grown _ ∙ all_stay m.pools)
+pools_left m step s = rw (s.pools.grow, s.pools.come, s.pools.gone) (none_grown _ ∙ all_stay m.pools)
 
 -- and the reweights
 pub weights_left : (m : ClusterMap) (step : Step) → LeavesRawSets step.change → (apply m step).weights ≡ m.weights
 unfolding apply
-weights_left m step s = rw s.weight refl
+weights_left m step s = rw s.weights refl
 
 -- the explicit set of a group is what such a change makes of it
 pub explicit_then : (m : ClusterMap) (step : Step) (g : Pg) → LeavesRawSets step.change → NamedRise step.change → said_of (apply m step).explicit g ≡ explicit_after step.change (said_of m.explicit g) g
 unfolding apply
-explicit_then m step g s rise = rw s.old_pools (said_then step.change.old_upmap step.change.new_upmap m.explicit g rise.new_upmap)
+explicit_then m step g s rise = rw s.pools.gone (said_then step.change.explicit.gone step.change.explicit.come m.explicit g rise.explicit.come)
 
 -- so are its pairs
 pub items_then : (m : ClusterMap) (step : Step) (g : Pg) → LeavesRawSets step.change → NamedRise step.change → said_of (apply m step).items g ≡ items_after step.change (said_of m.items g) g
 unfolding apply
-items_then m step g s rise = rw s.old_pools (said_then step.change.old_items step.change.new_items m.items g rise.new_items)
+items_then m step g s rise = rw s.pools.gone (said_then step.change.items.gone step.change.items.come m.items g rise.items.come)

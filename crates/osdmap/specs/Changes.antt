@@ -26,12 +26,14 @@ use Rattle.osdmap.specs.Maps.{ClusterMap, pool_at, osd_exists, has_rule}
 -- each OSD that is named exists
 unfoldable pub names_osds : ClusterMap → ChangeParts → Bool
 names_osds m c =
-    list_all (osd_exists m) c.down && list_all (osd_exists m) c.up && list_all (λ w. osd_exists m w.osd) c.weight
-    && list_all (all_named target (osd_exists m)) c.new_upmap && list_all (all_named sides (osd_exists m)) c.new_items
+    list_all (osd_exists m) c.osds.down && list_all (osd_exists m) c.osds.up
+    && list_all (λ w. osd_exists m w.osd) c.weights
+    && list_all (all_named target (osd_exists m)) c.explicit.come
+    && list_all (all_named sides (osd_exists m)) c.items.come
 
 -- each reweight is at most 65,536
 unfoldable pub weighs_rightly : ChangeParts → Bool
-weighs_rightly c = list_all (λ w. nat_le w.weight full_weight) c.weight
+weighs_rightly c = list_all (λ w. nat_le w.weight full_weight) c.weights
 
 -- the pools that stay
 unfoldable pub pools_kept : ClusterMap → ChangeParts → List PoolFacts
@@ -39,29 +41,29 @@ pools_kept m c = filter (λ p. not (loses c p.id)) m.pools
 
 -- the pools that are there once the old ones went and the new ones came, of a pool that comes twice the last one
 unfoldable pub pools_there : ClusterMap → ChangeParts → List PoolFacts
-pools_there m c = fold (put (λ p. p.id)) (pools_kept m c) c.new_pools
+pools_there m c = fold (put (λ p. p.id)) (pools_kept m c) c.pools.come
 
 -- the pools after a change: of these, some have grown
 unfoldable pub pools_after : ClusterMap → ChangeParts → List PoolFacts
-pools_after m c = map (with_growths c.grow_pool) (pools_there m c)
+pools_after m c = map (with_growths c.pools.grow) (pools_there m c)
 
 -- the forest and the rules after a change
 abbrev pub buckets_after : ClusterMap → ChangeParts → List Bucket
-buckets_after m c = option_map_or (λ k. k.buckets) c.new_crush m.buckets
+buckets_after m c = option_map_or (λ k. k.buckets) c.crush m.buckets
 
 abbrev pub rules_after : ClusterMap → ChangeParts → List NumberedRule
-rules_after m c = option_map_or (λ k. k.rules) c.new_crush m.rules
+rules_after m c = option_map_or (λ k. k.rules) c.crush m.rules
 
 -- each pool that is taken away is there; each that grows, and the pool of each group that is named, is there once the
 -- old ones went and the new ones came
 unfoldable pub names_pools : ClusterMap → ChangeParts → Bool
 names_pools m c =
-    list_all (has_pool m.pools) c.old_pools && list_all (λ g. has_pool (pools_there m c) g.pool) c.grow_pool
+    list_all (has_pool m.pools) c.pools.gone && list_all (λ g. has_pool (pools_there m c) g.pool) c.pools.grow
     && all_named_groups (has_pool_of (pools_there m c)) c
 
 -- no pool comes whose id is there
 unfoldable pub brings_new : ClusterMap → ChangeParts → Bool
-brings_new m c = list_all (λ p. not (has_pool (pools_kept m c) p.id)) c.new_pools
+brings_new m c = list_all (λ p. not (has_pool (pools_kept m c) p.id)) c.pools.come
 
 -- each device of a forest is below a number
 unfoldable pub has_devices_below : ℕ → List Bucket → Bool
@@ -69,7 +71,7 @@ has_devices_below n buckets = list_all (λ b. list_all (λ i. int_lt i.id (pos n
 
 -- the forest that comes has no device but those of the map
 unfoldable pub brings_forest : ClusterMap → ChangeParts → Bool
-brings_forest m c = option_map_or (λ k. has_devices_below (length m.presences) k.buckets) c.new_crush true
+brings_forest m c = option_map_or (λ k. has_devices_below (length m.presences) k.buckets) c.crush true
 
 -- a pool that is there gets no fewer groups, nor fewer for placement
 unfoldable pub grows_from : List PoolFacts → Growth → Bool
@@ -79,14 +81,14 @@ grows_from pools g =
 -- where no pool comes twice, all pools have at most 1,048,576 groups after the change
 unfoldable pub leaves_few_groups : ClusterMap → ChangeParts → Bool
 leaves_few_groups m c =
-    not (is_distinct (map (λ p. p.id) c.new_pools)) || nat_le (total_groups (pools_after m c)) max_total_groups
+    not (is_distinct (map (λ p. p.id) c.pools.come)) || nat_le (total_groups (pools_after m c)) max_total_groups
 
 -- each pool that stays or comes has a rule of its kind then, there are no more pools than the profile allows, none gets
 -- fewer groups, and all together do not get too many
 unfoldable pub brings_rightly : ClusterMap → ChangeParts → Bool
 brings_rightly m c =
-    list_all (has_rule (rules_after m c)) (pools_kept m c) && list_all (has_rule (rules_after m c)) c.new_pools
-    && nat_le (length (pools_there m c)) (most_pools c.profile) && list_all (grows_from (pools_there m c)) c.grow_pool
+    list_all (has_rule (rules_after m c)) (pools_kept m c) && list_all (has_rule (rules_after m c)) c.pools.come
+    && nat_le (length (pools_there m c)) (most_pools c.profile) && list_all (grows_from (pools_there m c)) c.pools.grow
     && leaves_few_groups m c
 
 -- each group that is named is there then
@@ -96,8 +98,8 @@ names_groups m c = all_named_groups (has_group (pools_after m c)) c
 -- each exception that comes says something, no more than the size of its pool, and that soundly
 unfoldable pub excepts_soundly : ClusterMap → ChangeParts → Bool
 excepts_soundly m c =
-    list_all (is_sound is_set (pools_after m c)) c.new_upmap
-    && list_all (is_sound are_pairs (pools_after m c)) c.new_items
+    list_all (is_sound is_set (pools_after m c)) c.explicit.come
+    && list_all (is_sound are_pairs (pools_after m c)) c.items.come
 
 -- the first refusal that applies, each over all parts
 abbrev pub change_fault : ClusterMap → ChangeParts → Option Refusal
@@ -132,10 +134,10 @@ apply m step = record m {
   buckets = buckets_after m step.change;
   rules = rules_after m step.change;
   pools = pools_after m step.change;
-  presences = fold (with_up true) (fold (with_up false) m.presences step.change.down) step.change.up;
-  weights = fold with_weight m.weights step.change.weight;
-  explicit = exceptions_after step.change.old_pools step.change.old_upmap step.change.new_upmap m.explicit;
-  items = exceptions_after step.change.old_pools step.change.old_items step.change.new_items m.items;
+  presences = fold (with_up true) (fold (with_up false) m.presences step.change.osds.down) step.change.osds.up;
+  weights = fold with_weight m.weights step.change.weights;
+  explicit = exceptions_after step.change.pools.gone step.change.explicit.gone step.change.explicit.come m.explicit;
+  items = exceptions_after step.change.pools.gone step.change.items.gone step.change.items.come m.items;
 }
 
 -- ---- journals

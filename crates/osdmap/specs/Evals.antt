@@ -14,7 +14,7 @@ use Rattle.osdmap.specs.Placement.{group_of, steps_of}
 
 -- whether a pool's rule reaches an OSD that gets another reweight
 unfoldable pub reaches_reweighted : ClusterMap → ChangeParts → PoolFacts → Bool
-reaches_reweighted m c p = list_any (λ w. paths.reaches m.buckets (steps_of m p) (pos w.osd)) c.weight
+reaches_reweighted m c p = list_any (λ w. paths.reaches m.buckets (steps_of m p) (pos w.osd)) c.weights
 
 -- whether all groups of a pool are evaluated: the change makes the pool anew, or its rule reaches such an OSD
 unfoldable pub is_touched : ClusterMap → ChangeParts → PoolFacts → Bool
@@ -23,7 +23,7 @@ is_touched m c p = renews c p.id || reaches_reweighted m c p
 -- whether an exception names an OSD that gets another reweight
 abbrev pub names_reweighted : {E : Type 0} → (E → List ℕ) → ChangeParts → Option (List E) → Bool
 names_reweighted names c said =
-    option_map_or (λ entries. list_any (λ entry. list_any (has_key (λ w. w.osd) c.weight)
+    option_map_or (λ entries. list_any (λ entry. list_any (has_key (λ w. w.osd) c.weights)
     (names entry)) entries) said false
 
 -- whether a change concerns the exceptions of a group: they go or come, or name an OSD that gets another reweight

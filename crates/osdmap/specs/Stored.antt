@@ -18,7 +18,7 @@ pub record StoredMap : Type 0 where
 
 -- there is room for what comes with a change, and a copy of its forest and rules lies ready
 pub record HasRoomFor (c : ChangeParts) (m : StoredMap) : Type 0 where
-  pub pools : length m.map.pools + length c.new_pools ≤ m.room.pools
-  pub explicit : length m.map.explicit + length c.new_upmap ≤ m.room.explicit
-  pub items : length m.map.items + length c.new_items ≤ m.room.items
-  pub crush : m.room.crush ≡ c.new_crush
+  pub pools : length m.map.pools + length c.pools.come ≤ m.room.pools
+  pub explicit : length m.map.explicit + length c.explicit.come ≤ m.room.explicit
+  pub items : length m.map.items + length c.items.come ≤ m.room.items
+  pub crush : m.room.crush ≡ c.crush

@@ -43,10 +43,10 @@ impl OsdMap {
         ensures room { OnOk result (HasRoomFor change.now self.new) }
     {
         let parts = change.parts();
-        self.pools.reserve(parts.new_pools.len())?;
-        self.explicit.reserve(parts.new_upmap.len())?;
-        self.items.reserve(parts.new_items.len())?;
-        self.ready = copy_of(alloc, &parts.new_crush)?;
+        self.pools.reserve(parts.pools.come.len())?;
+        self.explicit.reserve(parts.explicit.come.len())?;
+        self.items.reserve(parts.items.come.len())?;
+        self.ready = copy_of(alloc, &parts.crush)?;
         Ok(())
     }
 
@@ -59,27 +59,12 @@ impl OsdMap {
         let parts = change.parts();
         self.epoch = epoch;
         replace(&mut self.crush, &mut self.ready);
-        change_pools(
-            &mut self.pools,
-            &parts.old_pools,
-            &parts.new_pools,
-            &parts.grow_pool,
-        );
-        set_up(&mut self.presences, &parts.down, false);
-        set_up(&mut self.presences, &parts.up, true);
-        set_weights(&mut self.weights, &parts.weight);
-        change_exceptions(
-            &mut self.explicit,
-            &parts.old_pools,
-            &parts.old_upmap,
-            &parts.new_upmap,
-        );
-        change_exceptions(
-            &mut self.items,
-            &parts.old_pools,
-            &parts.old_items,
-            &parts.new_items,
-        );
+        change_pools(&mut self.pools, &parts.pools);
+        set_up(&mut self.presences, &parts.osds.down, false);
+        set_up(&mut self.presences, &parts.osds.up, true);
+        set_weights(&mut self.weights, &parts.weights);
+        change_exceptions(&mut self.explicit, &parts.pools.gone, &parts.explicit);
+        change_exceptions(&mut self.items, &parts.pools.gone, &parts.items);
     }
 
     /// Makes the map the one after an incremental of the next epoch, whose change it does not refuse and for which it

@@ -12,6 +12,7 @@ ghost use Rattle.osdmap.specs.Changes.{with_up, with_weight};
 ghost use Rattle.osdmap.specs.Marks.{are_below};
 
 use keylist::{Entries, has, last_of, put_all, take_away};
+use mapparts::{ExceptionChanges, PoolChanges};
 use maptypes::{Entry, Exception, Grow, Pg, Pool, Presence, Reweight};
 
 /// Each OSD of a list goes up or down.
@@ -69,36 +70,36 @@ fn grow_some(pools: &mut Vec<Pool>, growths: &[Grow])
 }
 
 /// Pools go, come and grow, each list in ascending order.
-pub(crate) fn change_pools(pools: &mut Vec<Pool>, old: &[u32], new: &[Pool], growths: &[Grow])
+pub(crate) fn change_pools(pools: &mut Vec<Pool>, changes: &PoolChanges<u32, Pool, Grow>)
     requires rising { IsRising (λ p. p.id) pools.old.items }
-    requires old { IsNonDecreasingBy (λ id. id) old.now }
-    requires new { IsRising (λ p. p.id) new.now }
-    requires growths { IsNonDecreasingBy (λ g. g.pool) growths.now }
-    requires room { vec_len pools.old + length new.now ≤ vec_capacity pools.old }
-    ensures { pools.new.items ≡ map (with_growths growths.now)
-        (fold (put (λ p. p.id)) (filter (λ p. not (has_key (λ id. id) old.now p.id)) pools.old.items) new.now) }
+    requires gone { IsNonDecreasingBy (λ id. id) changes.now.gone }
+    requires come { IsRising (λ p. p.id) changes.now.come }
+    requires growths { IsNonDecreasingBy (λ g. g.pool) changes.now.grow }
+    requires room { vec_len pools.old + length changes.now.come ≤ vec_capacity pools.old }
+    ensures { pools.new.items ≡ map (with_growths changes.now.grow) (fold (put (λ p. p.id))
+        (filter (λ p. not (has_key (λ id. id) changes.now.gone p.id)) pools.old.items) changes.now.come) }
 {
-    take_away(pools, old);
-    put_all(pools, new);
-    grow_some(pools, growths);
+    take_away(pools, &changes.gone);
+    put_all(pools, &changes.come);
+    grow_some(pools, &changes.grow);
 }
 
 /// The exceptions of the groups of some pools go.
-fn leave_pools<E: Entry>(exceptions: &mut Vec<Exception<E>>, old_pools: &[u32])
-    requires { IsNonDecreasingBy (λ id. id) old_pools.now }
+fn leave_pools<E: Entry>(exceptions: &mut Vec<Exception<E>>, gone_pools: &[u32])
+    requires { IsNonDecreasingBy (λ id. id) gone_pools.now }
     ensures items { exceptions.new.items ≡
-        filter (λ e. not (has_key (λ id. id) old_pools.now e.pg.pool)) exceptions.old.items }
+        filter (λ e. not (has_key (λ id. id) gone_pools.now e.pg.pool)) exceptions.old.items }
     ensures fewer { vec_len exceptions.new ≤ vec_len exceptions.old }
     ensures room { vec_capacity exceptions.new ≡ vec_capacity exceptions.old }
 {
-    if old_pools.is_empty() {
+    if gone_pools.is_empty() {
         return;
     }
     exceptions.retain(
         |exception: &Exception<E>| -> bool
-            requires { IsNonDecreasingBy (λ id. id) old_pools.now }
-            ensures { result ≡ not (has_key (λ id. id) old_pools.entry.now exception.now.pg.pool) }
-        { !has(old_pools, u64::from(exception.pg.pool)) },
+            requires { IsNonDecreasingBy (λ id. id) gone_pools.now }
+            ensures { result ≡ not (has_key (λ id. id) gone_pools.entry.now exception.now.pg.pool) }
+        { !has(gone_pools, u64::from(exception.pg.pool)) },
     );
 }
 
@@ -120,18 +121,18 @@ fn leave_groups<E: Entry>(exceptions: &mut Vec<Exception<E>>, gone: &[Pg])
 /// no pool goes, the list is not looked at.
 pub(crate) fn change_exceptions<E: Entry>(
     exceptions: &mut Vec<Exception<E>>,
-    old_pools: &[u32],
-    gone: &[Pg],
-    new: &[Exception<E>],
+    gone_pools: &[u32],
+    changes: &ExceptionChanges<Pg, Exception<E>>,
 )
     requires rising { IsRising key_of exceptions.old.items }
-    requires pools { IsNonDecreasingBy (λ id. id) old_pools.now }
-    requires gone { IsNonDecreasingBy pg_key gone.now }
-    requires new { IsRising key_of new.now }
-    requires room { vec_len exceptions.old + length new.now ≤ vec_capacity exceptions.old }
-    ensures { exceptions.new.items ≡ exceptions_after old_pools.now gone.now new.now exceptions.old.items }
+    requires pools { IsNonDecreasingBy (λ id. id) gone_pools.now }
+    requires gone { IsNonDecreasingBy pg_key changes.now.gone }
+    requires come { IsRising key_of changes.now.come }
+    requires room { vec_len exceptions.old + length changes.now.come ≤ vec_capacity exceptions.old }
+    ensures { exceptions.new.items ≡
+        exceptions_after gone_pools.now changes.now.gone changes.now.come exceptions.old.items }
 {
-    leave_pools(exceptions, old_pools);
-    leave_groups(exceptions, gone);
-    put_all(exceptions, new);
+    leave_pools(exceptions, gone_pools);
+    leave_groups(exceptions, &changes.gone);
+    put_all(exceptions, &changes.come);
 }

@@ -3,7 +3,7 @@ use Rattle.std.specs.Prelude.{ℤ}
 use Rattle.mapparts.specs.declared.parts.ItemPart.{ItemPart}
 use Rattle.mapparts.specs.declared.parts.PairPart.{PairPart}
 use Rattle.mapparts.specs.declared.parts.GrowPart.{GrowPart}
-use Rattle.partjson.specs.declared.change.RawReweight.{RawReweight}
+use Rattle.mapparts.specs.declared.change.ReweightPart.{ReweightPart}
 use Rattle.partjson.specs.declared.loads.RawLoad.{RawLoad}
 
 -- an item: [id, weight]
@@ -15,7 +15,7 @@ abbrev pub pair_at : ℤ × ℤ → PairPart
 pair_at p = record { from = p.0; to = p.1 }
 
 -- a reweight: [osd, weight]
-abbrev pub reweight_at : ℤ × ℤ → RawReweight
+abbrev pub reweight_at : ℤ × ℤ → ReweightPart
 reweight_at p = record { osd = p.0; weight = p.1 }
 
 -- a load: [osd, carried]

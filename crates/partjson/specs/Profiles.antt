@@ -6,7 +6,7 @@ use Rattle.mapparts.specs.declared.parts.MapParts.{MapParts}
 use Rattle.mapparts.specs.declared.parts.CrushParts.{CrushParts}
 use Rattle.mapparts.specs.declared.profile.Profile.{Profile}
 use Rattle.mapparts.specs.Profiles.{has_kinds, has_words}
-use Rattle.partjson.specs.declared.change.RawChange.{RawChange}
+use Rattle.mapparts.specs.declared.change.RawChange.{RawChange}
 use Rattle.jsonstream.specs.Json.{◌>>=◌}
 use Rattle.partjson.specs.StatedMaps.{stated_map}
 use Rattle.partjson.specs.StatedChanges.{stated_change, unbased_change}
@@ -21,7 +21,7 @@ map_allowed profile p = if has_kinds profile p.buckets && has_words profile p.ru
 
 -- the parts of a change that it allows
 abbrev pub change_allowed : Profile → RawChange → Option RawChange
-change_allowed profile c = if brings_kinds profile c.new_crush then Some c else None
+change_allowed profile c = if brings_kinds profile c.crush then Some c else None
 
 -- the parts of the map that a value states, where the profile allows them
 abbrev pub map_in : Profile → Data → Option MapParts

@@ -7,21 +7,15 @@ use Rattle.mapparts.specs.declared.parts.ExceptionPart.{ExceptionPart}
 use Rattle.mapparts.specs.declared.parts.PairPart.{PairPart}
 use Rattle.mapparts.specs.declared.pg_parts.PgParts.{PgParts}
 use Rattle.serde_json.specs.Data.{Data}
-use Rattle.partjson.specs.declared.change.RawChange.{RawChange}
-use Rattle.partjson.specs.declared.change.RawReweight.{RawReweight}
-use Rattle.jsonstream.specs.Json.{whole_number, stated_list, both_of, three_of}
+use Rattle.mapparts.specs.declared.change.RawChange.{RawChange}
+use Rattle.mapparts.specs.declared.change.ReweightPart.{ReweightPart}
+use Rattle.jsonstream.specs.Json.{whole_number, stated_list, both_of}
 use Rattle.partjson.specs.Fields.{Form, must, may, may_list, unstated, no_more, ◌&◌, stated_as}
 use Rattle.partjson.specs.StatedMaps as texts
 
 -- an OSD and its new reweight: [osd, reweight]
-unfoldable pub reweight_of : Data → Option RawReweight
+unfoldable pub reweight_of : Data → Option ReweightPart
 reweight_of d = option_map (λ one. record { osd = one.0; weight = one.1 }) (both_of whole_number whole_number d)
-
--- a pool and its new numbers of groups: [pool, pg_num, pgp_num]
-unfoldable pub stated_growth : Data → Option GrowPart
-stated_growth d =
-    option_map (λ three. record { pool = three.0; pg_num = three.1; pgp_num = three.2 })
-    (three_of whole_number whole_number whole_number d)
 
 -- a forest and rules, both required; steps that set tries are always allowed
 unfoldable pub crush_of : Data → Option CrushParts
@@ -33,23 +27,18 @@ crush_of d = stated_as (
 -- a change of the parts of its fields
 abbrev pub change_with : ℤ × (List ℤ × (List GrowPart × (Option CrushParts × (List (ExceptionPart PairPart)
     × (List PoolPart × (List (ExceptionPart ℤ) × (List PgParts × (List ℤ × (List PgParts × (List ℤ
-    × (List RawReweight × Unit {0}))))))))))) → RawChange
+    × (List ReweightPart × Unit {0}))))))))))) → RawChange
 change_with p =
     let (base, p) = p in let (down, p) = p in let (grow_pool, p) = p in let (new_crush, p) = p in
     let (new_items, p) = p in let (new_pools, p) = p in let (new_upmap, p) = p in let (old_items, p) = p in
     let (old_pools, p) = p in let (old_upmap, p) = p in let (up, p) = p in let (weight, p) = p in record {
       base = base;
-      old_pools = old_pools;
-      new_crush = new_crush;
-      new_pools = new_pools;
-      grow_pool = grow_pool;
-      down = down;
-      up = up;
-      weight = weight;
-      old_upmap = old_upmap;
-      old_items = old_items;
-      new_upmap = new_upmap;
-      new_items = new_items;
+      pools = record { gone = old_pools; come = new_pools; grow = grow_pool };
+      crush = new_crush;
+      osds = record { down = down; up = up };
+      weights = weight;
+      explicit = record { gone = old_upmap; come = new_upmap };
+      items = record { gone = old_items; come = new_items };
     }
 
 -- the parts of a change, by the form of its base: lists and a CRUSH map, which may be missing
@@ -57,7 +46,7 @@ abbrev pub change_by : Form ℤ → Data → Option RawChange
 change_by base d = stated_as (
     base
     & may_list (codes "down") whole_number
-    & may_list (codes "grow_pool") stated_growth
+    & may_list (codes "grow_pool") texts.stated_growth
     & may (codes "new_crush") crush_of
     & may_list (codes "new_items") (texts.stated_exception texts.stated_pair)
     & may_list (codes "new_pools") texts.stated_pool

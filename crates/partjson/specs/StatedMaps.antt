@@ -18,12 +18,13 @@ use Rattle.mapparts.specs.declared.parts.RulePart.{RulePart}
 use Rattle.mapparts.specs.declared.parts.StepPart.{StepPart}
 use Rattle.mapparts.specs.declared.parts.StepPart.TheVariants.{SetChooseTries, SetChooseleafTries, SetChooseleafVaryR, SetChooseleafStable, Take, Choose, Emit}
 use Rattle.mapparts.specs.declared.parts.PoolPart.{PoolPart}
+use Rattle.mapparts.specs.declared.parts.GrowPart.{GrowPart}
 use Rattle.mapparts.specs.declared.parts.OsdPart.{OsdPart}
 use Rattle.mapparts.specs.declared.parts.ExceptionPart.{ExceptionPart}
 use Rattle.mapparts.specs.declared.parts.PairPart.{PairPart}
 use Rattle.mapparts.specs.declared.pg_parts.PgParts.{PgParts}
 use Rattle.mapparts.specs.PgText.{parts_in}
-use Rattle.jsonstream.specs.Json.{◌>>=◌, whole_number, stated_list, has_count, place, both_of}
+use Rattle.jsonstream.specs.Json.{◌>>=◌, whole_number, stated_list, has_count, place, both_of, three_of}
 use Rattle.partjson.specs.Fields.{must, may_list, no_more, ◌&◌, stated_as}
 
 -- ---- the forest
@@ -158,6 +159,12 @@ stated_pool d = stated_as (
       rule = rule;
       size = size;
     }) d
+
+-- a pool and its new numbers of groups: [pool, pg_num, pgp_num]
+unfoldable pub stated_growth : Data → Option GrowPart
+stated_growth d =
+    option_map (λ three. record { pool = three.0; pg_num = three.1; pgp_num = three.2 })
+    (three_of whole_number whole_number whole_number d)
 
 -- an OSD: exists, id, up and weight
 unfoldable pub osd_of : Data → Option OsdPart

@@ -1,8 +1,8 @@
 //! Changes as JSON texts state them.
 
 ghost use Rattle.std.specs.Prelude.{◌≡◌, option_map};
-ghost use Rattle.partjson.specs.StatedChanges.{reweight_of, stated_growth, crush_of, change_with, stated_change};
-ghost use Rattle.partjson.specs.Places.{reweight_at, growth_at};
+ghost use Rattle.partjson.specs.StatedChanges.{reweight_of, crush_of, change_with, stated_change};
+ghost use Rattle.partjson.specs.Places.{reweight_at};
 
 use crate::fields::{May, MayList, Must};
 use crate::objects::{And, fields, object, parts, read_object};
@@ -10,92 +10,30 @@ use crate::values::FromJson;
 use json::Reader;
 use keylist::Entries;
 use mapparts::{
-    BucketPart, CrushParts, ExceptionPart, GrowPart, PairPart, PgParts, PoolPart, RulePart,
+    BucketPart, CrushParts, ExceptionChanges, ExceptionPart, GrowPart, OsdChanges, PairPart,
+    PgParts, PoolChanges, PoolPart, RawChange, ReweightPart, RulePart,
 };
 use refusal::Refusal;
 use std::alloc::Global;
 
-/// A change as a text states it, its numbers untested: each is any whole number.
-#[derive(Debug, Drop)]
-pub struct RawChange {
-    /// The epoch to which the change applies: 0 to 2^64 - 1.
-    pub base: i128,
-    /// The ids of the pools that are taken away: 1 to 65,535.
-    pub old_pools: Entries<i128>,
-    /// The forest and the rules that come in place of those of the map.
-    pub new_crush: Option<CrushParts>,
-    /// The pools that come.
-    pub new_pools: Entries<PoolPart>,
-    /// The pools that grow, and what to.
-    pub grow_pool: Entries<GrowPart>,
-    /// The OSDs that go down: 0 to 4,095.
-    pub down: Entries<i128>,
-    /// The OSDs that come up: 0 to 4,095.
-    pub up: Entries<i128>,
-    /// The OSDs that get another reweight.
-    pub weight: Entries<RawReweight>,
-    /// The groups whose explicit set is taken away.
-    pub old_upmap: Entries<PgParts>,
-    /// The groups whose pairs are taken away.
-    pub old_items: Entries<PgParts>,
-    /// The explicit sets that groups get.
-    pub new_upmap: Entries<ExceptionPart<i128>>,
-    /// The pairs that groups get.
-    pub new_items: Entries<ExceptionPart<PairPart>>,
-}
-
-/// An OSD and its new reweight as a text states them.
-#[derive(Clone, Copy, Debug, PartialEq, Eq)]
-pub struct RawReweight {
-    /// 0 to 4,095.
-    pub osd: i128,
-    /// 0 to 4,294,967,295.
-    pub weight: i128,
-}
-
 /// A reweight of the numbers at its places.
-fn reweight_of_places(places: Option<(i128, i128)>) -> Option<RawReweight>
+fn reweight_of_places(places: Option<(i128, i128)>) -> Option<ReweightPart>
     ensures { result ≡ option_map reweight_at places }
 {
     let (osd, weight) = places?;
-    Some(RawReweight { osd, weight })
+    Some(ReweightPart { osd, weight })
 }
 
-impl FromJson for RawReweight {
+impl FromJson for ReweightPart {
     ghost stated = { reweight_of };
 
     fn read(
         alloc: Global,
         reader: &mut Reader<'_>,
         depth: usize,
-    ) -> Result<Option<RawReweight>, Refusal> {
+    ) -> Result<Option<ReweightPart>, Refusal> {
         let places: Option<(i128, i128)> = FromJson::read(alloc, reader, depth)?;
         Ok(reweight_of_places(places))
-    }
-}
-
-/// A growth of the numbers at its places.
-fn growth_of_places(places: Option<(i128, i128, i128)>) -> Option<GrowPart>
-    ensures { result ≡ option_map growth_at places }
-{
-    let (pool, pg_num, pgp_num) = places?;
-    Some(GrowPart {
-        pool,
-        pg_num,
-        pgp_num,
-    })
-}
-
-impl FromJson for GrowPart {
-    ghost stated = { stated_growth };
-
-    fn read(
-        alloc: Global,
-        reader: &mut Reader<'_>,
-        depth: usize,
-    ) -> Result<Option<GrowPart>, Refusal> {
-        let places: Option<(i128, i128, i128)> = FromJson::read(alloc, reader, depth)?;
-        Ok(growth_of_places(places))
     }
 }
 
@@ -144,7 +82,7 @@ type Behind = (
         Entries<i128>,
         (
             Entries<PgParts>,
-            (Entries<i128>, (Entries<RawReweight>, ())),
+            (Entries<i128>, (Entries<ReweightPart>, ())),
         ),
     ),
 );
@@ -171,17 +109,22 @@ pub(crate) fn change_with(found: Option<Found>) -> Option<RawChange>
     ) = found?;
     Some(RawChange {
         base,
-        old_pools,
-        new_crush,
-        new_pools,
-        grow_pool,
-        down,
-        up,
-        weight,
-        old_upmap,
-        old_items,
-        new_upmap,
-        new_items,
+        pools: PoolChanges {
+            gone: old_pools,
+            come: new_pools,
+            grow: grow_pool,
+        },
+        crush: new_crush,
+        osds: OsdChanges { down, up },
+        weights: weight,
+        explicit: ExceptionChanges {
+            gone: old_upmap,
+            come: new_upmap,
+        },
+        items: ExceptionChanges {
+            gone: old_items,
+            come: new_items,
+        },
     })
 }
 

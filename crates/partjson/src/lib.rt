@@ -32,13 +32,12 @@ mod values;
 mod whole;
 mod words;
 
-pub use crate::change::{RawChange, RawReweight};
 pub use crate::loads::RawLoad;
 use crate::profile::{change_allowed, map_allowed};
 use crate::unbased::Unbased;
 use crate::whole::stated_by;
 use keylist::Entries;
-use mapparts::{MapParts, Profile};
+use mapparts::{MapParts, Profile, RawChange};
 use refusal::Refusal;
 use std::alloc::Global;
 

@@ -3,8 +3,7 @@
 ghost use Rattle.std.specs.Prelude.{◌≡◌};
 ghost use Rattle.partjson.specs.Profiles.{brings_kinds, map_allowed, change_allowed};
 
-use crate::change::RawChange;
-use mapparts::{CrushParts, MapParts, Profile};
+use mapparts::{CrushParts, MapParts, Profile, RawChange};
 
 /// Whether a profile has the kinds of all buckets of a CRUSH map, and the steps of its rules, where there is one.
 fn brings_kinds(profile: Profile, crush: &Option<CrushParts>) -> bool
@@ -27,5 +26,5 @@ pub(crate) fn map_allowed(profile: Profile, parts: MapParts) -> Option<MapParts>
 pub(crate) fn change_allowed(profile: Profile, parts: RawChange) -> Option<RawChange>
     ensures { result ≡ change_allowed profile parts }
 {
-    brings_kinds(profile, &parts.new_crush).then_some(parts)
+    brings_kinds(profile, &parts.crush).then_some(parts)
 }

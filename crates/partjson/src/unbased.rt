@@ -5,11 +5,12 @@ ghost use Rattle.json.specs.Json.{parse_map};
 ghost use Rattle.jsonstream.specs.Stream.{next, TakesValue};
 ghost use Rattle.partjson.specs.StatedChanges.{unbased_change};
 
-use crate::change::{RawChange, change_fields, change_with};
+use crate::change::{change_fields, change_with};
 use crate::fields::{May, MayList, Unstated};
 use crate::objects::{And, fields, read_object};
 use crate::values::FromJson;
 use json::Reader;
+use mapparts::RawChange;
 use refusal::Refusal;
 use std::alloc::Global;
 use std::marker::Model;
@@ -21,7 +22,7 @@ pub(crate) struct Unbased {
 }
 
 impl Model for Unbased {
-    ghost use Rattle.partjson.specs.declared.change.RawChange.{RawChange};
+    ghost use Rattle.mapparts.specs.declared.change.RawChange.{RawChange};
 
     ghost Value = { RawChange };
 

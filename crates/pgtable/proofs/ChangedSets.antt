@@ -33,12 +33,12 @@ use Rattle.pgtable.proofs.Found.{mapped_small}
 -- no pool is touched
 pub none_touched : (m : ClusterMap) (c : ChangeParts) (p : PoolFacts) → LeavesRawSets c → is_touched m c p ≡ false
 unfolding is_touched reaches_reweighted
-none_touched m c p s = rw (none_renewed c p.id s, s.weight) refl
+none_touched m c p s = rw (none_renewed c p.id s, s.weights) refl
 
 -- a rule reaches no OSD that gets another reweight
 none_reached : (m : ClusterMap) (c : ChangeParts) (p : PoolFacts) → LeavesRawSets c → reaches_reweighted m c p ≡ false
 unfolding reaches_reweighted
-none_reached m c p s = rw s.weight refl
+none_reached m c p s = rw s.weights refl
 
 -- the pools stay
 pub pools_stay : (m : ClusterMap) (c : ChangeParts) → LeavesRawSets c → (changed_map m c).pools ≡ m.pools
@@ -50,7 +50,7 @@ pools_stay m c s = pools_left m (record { epoch = m.epoch + 1; change = c }) s
 raw_stay : (m : ClusterMap) (c : ChangeParts) (p : PoolFacts) (n : ℕ) → LeavesRawSets c → HoldsTogether m → pool_at m.pools p.id ≡ Some p → raw_set m p n ≡ raw_set (changed_map m c) p n
 raw_stay m c p n s holds there =
     let has = found_passes _ (has_rule m.rules) m.pools p there holds.ruled in
-    raw_stays m (record { epoch = m.epoch + 1; change = c }) p n holds has s.new_crush (none_reached (changed_map m c) c p s)
+    raw_stays m (record { epoch = m.epoch + 1; change = c }) p n holds has s.crush (none_reached (changed_map m c) c p s)
 
 -- the same reweights, exceptions and raw set make the same mapped set
 all_same : (ws ws' : List ℕ) (explicit explicit' : Option (List ℕ)) (items items' : Option (List Pair)) (raw raw' : List (Option ℕ)) → ws ≡ ws' → explicit ≡ explicit' → items ≡ items' → raw ≡ raw'
@@ -103,7 +103,7 @@ source_pools m source c false is_source = ap (λ n. n.pools) (is_source.before r
 -- by it the change concerns the groups that it concerns by the map after it
 pub source_concerned : (m source : ClusterMap) (c : ChangeParts) (p : PoolFacts) (is_after : Bool) → IsSource m c source is_after → concerned_numbers source c p ≡ concerned_numbers (changed_map m c) c p
 source_concerned m source c p true is_source = ap (λ n. concerned_numbers n c p) (is_source.after refl)
-source_concerned m source c p false is_source = concerned_alike source (changed_map m c) c p (leaving c (is_source.leaves refl)).weight
+source_concerned m source c p false is_source = concerned_alike source (changed_map m c) c p (leaving c (is_source.leaves refl)).weights
 
 -- where there is no candidate, the change concerns no group
 pub none_concerned : (m : ClusterMap) (c : ChangeParts) (p : PoolFacts) (groups : List Pg) → IsCandidates m c groups → is_empty groups ≡ true → [] ≡ concerned_numbers m c p

@@ -243,9 +243,9 @@ none_of_entries names p [] none = refl
 none_of_entries names p (e ∷ es) none = rw (none_of p (names e) none) (none_of_entries names p es none)
 
 -- without reweights no exception names an OSD that gets one
-none_reweighted : {E : Type 0} (names : E → List ℕ) (c : ChangeParts) (said : Option (List E)) → c.weight ≡ [] → names_reweighted names c said ≡ false
+none_reweighted : {E : Type 0} (names : E → List ℕ) (c : ChangeParts) (said : Option (List E)) → c.weights ≡ [] → names_reweighted names c said ≡ false
 none_reweighted names c None empty = refl
-none_reweighted names c (Some entries) empty = none_of_entries names (has_key (λ w. w.osd) c.weight) entries (λ osd. rw empty refl)
+none_reweighted names c (Some entries) empty = none_of_entries names (has_key (λ w. w.osd) c.weights) entries (λ osd. rw empty refl)
 
 -- an exception that names one is there
 said_has : {E : Type 0} (names : E → List ℕ) (c : ChangeParts) (es : List (Exception E)) (g : Pg) → names_reweighted names c (said_of es g) ≡ true → has_key key_of es (pg_key g) ≡ true
@@ -256,7 +256,7 @@ said_has {E} names c es g h = has-entry key_of es (pg_key g) ∙ by_entry (entry
     by_entry (Some e) is = rw is refl
 
 -- a group whose exceptions a change concerns is a candidate, whether OSDs are reweighted or not
-by_weight : (m : ClusterMap) (c : ChangeParts) (g : Pg) (ws : List Reweight) → c.weight ≡ ws → concerns m c g ≡ true → has_key pg_key (candidates_by ws m c) (pg_key g) ≡ true
+by_weight : (m : ClusterMap) (c : ChangeParts) (g : Pg) (ws : List Reweight) → c.weights ≡ ws → concerns m c g ≡ true → has_key pg_key (candidates_by ws m c) (pg_key g) ≡ true
 unfolding concerns
 by_weight m c g [] is loud = elim (or_cases _ _ loud) [
   | inr items ↦ absurd (false≢true (sym (none_reweighted sides c (said_of m.items g) is) ∙ items))
@@ -278,12 +278,12 @@ by_weight m c g (w ∷ ws) is loud =
 -- so it always is
 pub candidates_have : (m : ClusterMap) (c : ChangeParts) (g : Pg) → concerns m c g ≡ true → has_key pg_key (candidates m c) (pg_key g) ≡ true
 unfolding candidates
-candidates_have m c g loud = by_weight m c g c.weight refl loud
+candidates_have m c g loud = by_weight m c g c.weights refl loud
 
 -- ---- where no OSD gets another reweight
 
 -- a change then concerns the groups that it names
-concerns_named : (m : ClusterMap) (c : ChangeParts) (g : Pg) → c.weight ≡ [] → concerns m c g ≡ is_named c g
+concerns_named : (m : ClusterMap) (c : ChangeParts) (g : Pg) → c.weights ≡ [] → concerns m c g ≡ is_named c g
 unfolding concerns
 concerns_named m c g none = rw (none_reweighted target c (said_of m.explicit g) none, none_reweighted sides c (said_of m.items g) none) (or_nothing (is_named c g))
   where
@@ -292,7 +292,7 @@ concerns_named m c g none = rw (none_reweighted target c (said_of m.explicit g) 
     or_nothing false = refl
 
 -- so it concerns the same groups of a pool by whatever map
-pub concerned_alike : (m n : ClusterMap) (c : ChangeParts) (p : PoolFacts) → c.weight ≡ [] → concerned_numbers m c p ≡ concerned_numbers n c p
+pub concerned_alike : (m n : ClusterMap) (c : ChangeParts) (p : PoolFacts) → c.weights ≡ [] → concerned_numbers m c p ≡ concerned_numbers n c p
 concerned_alike m n c p none =
     filter_agree (λ k. concerns m c (group_of p k)) (λ k. concerns n c (group_of p k))
     (λ k. concerns_named m c (group_of p k) none ∙ sym (concerns_named n c (group_of p k) none)) (range_with_len 0 p.pg_num)

@@ -39,7 +39,7 @@ turned_are up ps (osd ∷ osds) = rw (sym (map-set (λ (p : Presence). p.up) ps 
 -- the bits after a change are those before with its OSDs turned
 pub ups_follow : (m : ClusterMap) (c : ChangeParts) → ups_of (changed_map m c) ≡ ups_after (ups_of m) c
 unfolding apply
-ups_follow m c = ups_are (changed_map m c) ∙ sym (ap (λ us. ups_after us c) (ups_are m) ∙ ap (λ us. with_ups true us c.up) (turned_are false m.presences c.down) ∙ turned_are true _ c.up)
+ups_follow m c = ups_are (changed_map m c) ∙ sym (ap (λ us. ups_after us c) (ups_are m) ∙ ap (λ us. with_ups true us c.osds.up) (turned_are false m.presences c.osds.down) ∙ turned_are true _ c.osds.up)
 
 -- as many are known to be up or down after some turned
 pub length-turned : (up : Bool) (ups : List Bool) (osds : List ℕ) → length (with_ups up ups osds) ≡ length ups

@@ -10,4 +10,4 @@ use Rattle.osdmap.specs.Evals.{reaches_reweighted}
 -- a pool without a rule reaches nothing
 pub no_rule : (m : ClusterMap) (c : ChangeParts) (p : PoolFacts) → rule_at m.rules p.rule ≡ None → reaches_reweighted m c p ≡ false
 unfolding reaches_reweighted
-no_rule m c p none = list_any_none _ c.weight (λ k d below. rw none)
+no_rule m c p none = list_any_none _ c.weights (λ k d below. rw none)

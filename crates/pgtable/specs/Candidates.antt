@@ -18,7 +18,7 @@ candidates_by [] m c = named_groups c
 candidates_by (w ∷ ws) m c = union_of (union_of (named_groups c) (excepted_groups m.explicit)) (excepted_groups m.items)
 
 unfoldable pub candidates : ClusterMap → ChangeParts → List Pg
-candidates m c = candidates_by c.weight m c
+candidates m c = candidates_by c.weights m c
 
 -- the number in a pool of the group of a key, where the pool has it and a test passes it; `base` is the key of the
 -- pool's first group

@@ -50,7 +50,7 @@ with_ups up ups osds = fold (λ us osd. slice_set us osd up) ups osds
 
 -- which OSDs are up after a change
 abbrev pub ups_after : List Bool → ChangeParts → List Bool
-ups_after ups c = with_ups true (with_ups false ups c.down) c.up
+ups_after ups c = with_ups true (with_ups false ups c.osds.down) c.osds.up
 
 -- the groups of a pool whose exceptions a change concerns
 abbrev pub concerned_numbers : ClusterMap → ChangeParts → PoolFacts → List ℕ

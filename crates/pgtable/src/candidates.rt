@@ -38,7 +38,7 @@ fn with_excepted(alloc: Global, change: &Change, after: &OsdMap) -> Result<Vec<P
 {
     after.holds_together();
     let mut groups = change.named_groups(alloc)?;
-    if !change.parts().weight.is_empty() {
+    if !change.parts().weights.is_empty() {
         join_groups_of(alloc, &mut groups, after.explicits())?;
         join_groups_of(alloc, &mut groups, after.all_items())?;
     }

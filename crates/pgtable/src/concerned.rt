@@ -46,7 +46,7 @@ fn name_reweighted<E: Entry>(entries: &[E], weight: &[Reweight]) -> bool
 fn names_reweighted<E: Entry>(change: &Change, said: Option<&[E]>) -> bool
     ensures { result ≡ names_reweighted E.names change.now (option_copied said.entry) }
 {
-    let weight: &[Reweight] = &change.parts().weight;
+    let weight: &[Reweight] = &change.parts().weights;
     said.is_some_and(|entries| name_reweighted(entries, weight))
 }
 

@@ -36,13 +36,13 @@ impl PgTable {
 
     /// Which OSDs are up after a change; or `Memory` (30).
     fn ups_after(&self, alloc: Global, change: &Change) -> Result<Vec<bool>, Memory>
-        requires down { are_below (λ osd. osd) (length self.now.up) change.now.down ≡ true }
-        requires up { are_below (λ osd. osd) (length self.now.up) change.now.up ≡ true }
+        requires down { are_below (λ osd. osd) (length self.now.up) change.now.osds.down ≡ true }
+        requires up { are_below (λ osd. osd) (length self.now.up) change.now.osds.up ≡ true }
         ensures { IfOk result (λ up. up.items ≡ ups_after self.now.up change.now) }
     {
         let mut up = Vec::from_slice(alloc, &self.up)?;
-        set_ups(&mut up, &change.parts().down, false);
-        set_ups(&mut up, &change.parts().up, true);
+        set_ups(&mut up, &change.parts().osds.down, false);
+        set_ups(&mut up, &change.parts().osds.up, true);
         Ok(up)
     }
 

@@ -36,7 +36,7 @@ fn reaches(map: &OsdMap, change: &Change, pool: &Pool) -> bool
     match map.rule(pool.rule()) {
         Some(rule) => change
             .parts()
-            .weight
+            .weights
             .iter()
             .any(|reweight| rule.reaches(map.forest(), reweight.osd)),
         None => false,

@@ -9,14 +9,17 @@ ghost use Rattle.maptypes.specs.Values.{growth_of, pool_of, pg_of};
 ghost use Rattle.refusal.specs.declared.refused.Refusal.TheVariants.{BadPool};
 ghost use Rattle.refusal.specs.Outcomes.{refused_unless};
 ghost use Rattle.refusal.specs.Outcomes.{Makes};
-ghost use Rattle.mapjson.specs.ChangeTexts.{reweight_fits, change_fits, reweight_within, parts_within, new_crush_fault, IsCrushStated, are_even};
+ghost use Rattle.mapparts.specs.Changes.{reweight_fits, pool_changes_fit, osd_changes_fit, change_fits, are_even};
+ghost use Rattle.mapjson.specs.ChangeTexts.{reweight_within, pools_within, osds_within, parts_within, new_crush_fault, IsCrushStated};
 
 use buckets::limits::MAX_DEVICES;
 use keylist::Entries;
 use mapparts::numbers::word;
-use mapparts::{CrushParts, GrowPart, PgParts, PoolPart, Profile};
+use mapparts::{
+    CrushParts, ExceptionChanges, GrowPart, OsdChanges, PgParts, PoolChanges, PoolPart, Profile,
+    RawChange, ReweightPart,
+};
 use maptypes::{ChangeParts, CrushMap, Grow, Pg, Pool, Reweight, exceptions_of};
-use partjson::{RawChange, RawReweight};
 use refusal::{Memory, Refusal};
 use std::alloc::{AllocError, Global};
 
@@ -29,8 +32,8 @@ fn words(alloc: Global, numbers: &[i128]) -> Result<Vec<u32>, AllocError>
 }
 
 /// A reweight that is within the limits.
-#[tactic(auto, unfolding(crate::specs::ChangeTexts::reweight_fits), using(mapparts::proofs::Within::osd_id_word))]
-fn reweight(stated: &RawReweight) -> Reweight
+#[tactic(auto, unfolding(mapparts::specs::Changes::reweight_fits), using(mapparts::proofs::Within::osd_id_word))]
+fn reweight(stated: &ReweightPart) -> Reweight
     requires { IsTrue (reweight_fits stated.now) }
     ensures { result ≡ reweight_within stated.now }
 {
@@ -41,7 +44,7 @@ fn reweight(stated: &RawReweight) -> Reweight
 }
 
 /// Reweights that are within the limits.
-fn reweights(alloc: Global, stated: &[RawReweight]) -> Result<Vec<Reweight>, AllocError>
+fn reweights(alloc: Global, stated: &[ReweightPart]) -> Result<Vec<Reweight>, AllocError>
     requires { All (λ one. IsTrue (reweight_fits one)) stated.now }
     ensures { IfOk result (λ found. found.items ≡ map reweight_within stated.now) }
 {
@@ -109,38 +112,67 @@ fn make_crush(alloc: Global, parts: &CrushParts) -> Result<CrushMap, Refusal>
     CrushMap::of_parts(alloc, &parts.buckets, &parts.rules, MAX_DEVICES)
 }
 
+/// What a change within the limits does with pools: `BadPool` (15) where a pool that comes or grows has more groups for
+/// placement than groups; or `Memory` (30).
+fn pools_within(
+    alloc: Global,
+    stated: &PoolChanges<i128, PoolPart, GrowPart>,
+) -> Result<PoolChanges<u32, Pool, Grow>, Refusal>
+    requires { pool_changes_fit stated.now ≡ true }
+    ensures { Makes result (refused_unless (are_even stated.now) BadPool) (λ found. found ≡ pools_within stated.now) }
+{
+    let come = pools(alloc, &stated.come)?;
+    let grow = growths(alloc, &stated.grow)?;
+    Ok(PoolChanges {
+        gone: Entries::new(words(alloc, &stated.gone)?),
+        come: Entries::new(come),
+        grow: Entries::new(grow),
+    })
+}
+
+/// What it does with OSDs.
+fn osds_within(alloc: Global, stated: &OsdChanges<i128>) -> Result<OsdChanges<u32>, AllocError>
+    requires { osd_changes_fit stated.now ≡ true }
+    ensures { IfOk result (λ found. found ≡ osds_within stated.now) }
+{
+    Ok(OsdChanges {
+        down: Entries::new(words(alloc, &stated.down)?),
+        up: Entries::new(words(alloc, &stated.up)?),
+    })
+}
+
 /// The parts of a change that is within the limits, of a profile and with a CRUSH map: `BadPool` (15) where a pool that
 /// comes or grows has more groups for placement than groups; or `Memory` (30).
+#[tactic(auto, unfolding(mapparts::specs::Changes::change_fits))]
 pub(super) fn parts_within(
     alloc: Global,
     change: &RawChange,
-    new_crush: Option<CrushMap>,
+    crush: Option<CrushMap>,
     profile: Profile,
 ) -> Result<ChangeParts, Refusal>
     requires { change_fits change.now ≡ true }
-    ensures { Makes result (refused_unless (are_even change.now) BadPool)
-        (λ parts. parts ≡ parts_within profile change.now new_crush) }
+    ensures { Makes result (refused_unless (are_even change.now.pools) BadPool)
+        (λ parts. parts ≡ parts_within profile change.now crush) }
 {
-    let new_pools = pools(alloc, &change.new_pools)?;
-    let grow_pool = growths(alloc, &change.grow_pool)?;
     Ok(ChangeParts {
         profile,
-        old_pools: Entries::new(words(alloc, &change.old_pools)?),
-        new_crush,
-        new_pools: Entries::new(new_pools),
-        grow_pool: Entries::new(grow_pool),
-        down: Entries::new(words(alloc, &change.down)?),
-        up: Entries::new(words(alloc, &change.up)?),
-        weight: Entries::new(reweights(alloc, &change.weight)?),
-        old_upmap: Entries::new(groups(alloc, &change.old_upmap)?),
-        old_items: Entries::new(groups(alloc, &change.old_items)?),
-        new_upmap: Entries::new(exceptions_of(alloc, &change.new_upmap)?),
-        new_items: Entries::new(exceptions_of(alloc, &change.new_items)?),
+        pools: pools_within(alloc, &change.pools)?,
+        crush,
+        osds: osds_within(alloc, &change.osds)?,
+        weights: Entries::new(reweights(alloc, &change.weights)?),
+        explicit: ExceptionChanges {
+            gone: Entries::new(groups(alloc, &change.explicit.gone)?),
+            come: Entries::new(exceptions_of(alloc, &change.explicit.come)?),
+        },
+        items: ExceptionChanges {
+            gone: Entries::new(groups(alloc, &change.items.gone)?),
+            come: Entries::new(exceptions_of(alloc, &change.items.come)?),
+        },
     })
 }
 
 /// The base of a change that is within the limits.
-#[tactic(auto, unfolding(crate::specs::ChangeTexts::change_fits, mapparts::specs::Parts::is_between))]
+#[tactic(auto, unfolding(mapparts::specs::Changes::change_fits, mapparts::specs::Parts::is_between))]
 pub(super) fn base_within(change: &RawChange) -> u64
     requires { change_fits change.now ≡ true }
     ensures { result ≡ nat_abs change.now.base }

@@ -1,7 +1,7 @@
 //! What is written of a change.
 
 ghost use Rattle.std.specs.Prelude.{◌≡◌, ◌++◌, OnOk, option_map};
-ghost use Rattle.partjson.specs.declared.change.RawReweight.{RawReweight};
+ghost use Rattle.mapparts.specs.declared.change.ReweightPart.{ReweightPart};
 ghost use Rattle.mapjson.specs.PartsOfChange.{crush_parts, reweight_part, change_parts};
 ghost use Rattle.mapjson.specs.WrittenChanges.{reweight_data, crush_member, first_members, last_members, change_data, HasNamed};
 ghost use Rattle.mapjson.specs.Pieces.{tokens_of, member_tokens, IsReadBack, AreReadBack};
@@ -12,7 +12,7 @@ use maptypes::{ChangeParts, CrushMap, Reweight};
 use std::alloc::{AllocError, Global};
 
 impl WriteJson for Reweight {
-    ghost Part = { RawReweight };
+    ghost Part = { ReweightPart };
 
     ghost part = { reweight_part };
 
@@ -39,8 +39,8 @@ fn first_members(
     ensures back { OnOk result (AreReadBack (first_members (change_parts base parts.now))) }
 {
     epoch_member(out, "base", base)?;
-    list_member(alloc, out, "down", &parts.down)?;
-    list_member(alloc, out, "grow_pool", &parts.grow_pool)
+    list_member(alloc, out, "down", &parts.osds.down)?;
+    list_member(alloc, out, "grow_pool", &parts.pools.grow)
 }
 
 /// Writes the member of a CRUSH map, where there is one.
@@ -65,14 +65,14 @@ fn last_members(alloc: Global, out: &mut Writer, parts: &ChangeParts) -> Result<
     ensures back { OnOk result (AreReadBack (last_members (change_parts 0 parts.now))) }
     ensures named { OnOk result (HasNamed (change_parts 0 parts.now)) }
 {
-    list_member(alloc, out, "new_items", &parts.new_items)?;
-    list_member(alloc, out, "new_pools", &parts.new_pools)?;
-    list_member(alloc, out, "new_upmap", &parts.new_upmap)?;
-    list_member(alloc, out, "old_items", &parts.old_items)?;
-    list_member(alloc, out, "old_pools", &parts.old_pools)?;
-    list_member(alloc, out, "old_upmap", &parts.old_upmap)?;
-    list_member(alloc, out, "up", &parts.up)?;
-    list_member(alloc, out, "weight", &parts.weight)
+    list_member(alloc, out, "new_items", &parts.items.come)?;
+    list_member(alloc, out, "new_pools", &parts.pools.come)?;
+    list_member(alloc, out, "new_upmap", &parts.explicit.come)?;
+    list_member(alloc, out, "old_items", &parts.items.gone)?;
+    list_member(alloc, out, "old_pools", &parts.pools.gone)?;
+    list_member(alloc, out, "old_upmap", &parts.explicit.gone)?;
+    list_member(alloc, out, "up", &parts.osds.up)?;
+    list_member(alloc, out, "weight", &parts.weights)
 }
 
 /// Writes a change with its base: each list, and the CRUSH map where there is one.
@@ -91,7 +91,7 @@ pub(crate) fn write_parts(
 {
     out.begin_object()?;
     first_members(alloc, out, base, parts)?;
-    crush_member(alloc, out, &parts.new_crush)?;
+    crush_member(alloc, out, &parts.crush)?;
     last_members(alloc, out, parts)?;
     out.end_object()
 }

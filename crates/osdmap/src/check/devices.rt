@@ -41,7 +41,7 @@ impl OsdMap {
     pub(crate) fn brings_forest(&self, change: &Change) -> bool
         ensures { result ≡ brings_forest self.now.map change.now }
     {
-        match &change.parts().new_crush {
+        match &change.parts().crush {
             Some(crush) => has_devices_below(crush.forest(), self.max_osd()),
             None => true,
         }

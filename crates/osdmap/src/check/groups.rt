@@ -35,19 +35,19 @@ impl OsdMap {
         ensures { result ≡ names_groups self.now.map change.now }
     {
         let parts = change.parts();
-        self.are_groups(change, &parts.old_upmap)
-            && self.are_groups(change, &parts.old_items)
-            && self.are_groups(change, &parts.new_upmap)
-            && self.are_groups(change, &parts.new_items)
+        self.are_groups(change, &parts.explicit.gone)
+            && self.are_groups(change, &parts.items.gone)
+            && self.are_groups(change, &parts.explicit.come)
+            && self.are_groups(change, &parts.items.come)
     }
 
     /// Whether each OSD exists that an exception which comes names.
     pub(crate) fn knows_excepted(&self, change: &Change) -> bool
-        ensures { result ≡ (list_all (all_named target (osd_exists self.now.map)) change.now.new_upmap
-            && list_all (all_named sides (osd_exists self.now.map)) change.now.new_items) }
+        ensures { result ≡ (list_all (all_named target (osd_exists self.now.map)) change.now.explicit.come
+            && list_all (all_named sides (osd_exists self.now.map)) change.now.items.come) }
     {
         let parts = change.parts();
-        self.all_named_exist(&parts.new_upmap) && self.all_named_exist(&parts.new_items)
+        self.all_named_exist(&parts.explicit.come) && self.all_named_exist(&parts.items.come)
     }
 
     /// Whether an exception that comes is sound for its pool after the change.
@@ -77,7 +77,7 @@ impl OsdMap {
         ensures { result ≡ excepts_soundly self.now.map change.now }
     {
         let parts = change.parts();
-        self.all_sound_after(change, &parts.new_upmap)
-            && self.all_sound_after(change, &parts.new_items)
+        self.all_sound_after(change, &parts.explicit.come)
+            && self.all_sound_after(change, &parts.items.come)
     }
 }

@@ -12,7 +12,7 @@ use maptypes::{Change, Entry, Exception, Reweight};
 pub(crate) fn weighs_rightly(change: &Change) -> bool
     ensures { result ≡ weighs_rightly change.now }
 {
-    let weight: &[Reweight] = &change.parts().weight;
+    let weight: &[Reweight] = &change.parts().weights;
     weight.iter().all(|w| w.weight <= FULL_WEIGHT)
 }
 
@@ -75,9 +75,9 @@ impl OsdMap {
         ensures { result ≡ names_osds self.now.map change.now }
     {
         let parts = change.parts();
-        self.all_exist(&parts.down)
-            && self.all_exist(&parts.up)
-            && self.all_reweighted_exist(&parts.weight)
+        self.all_exist(&parts.osds.down)
+            && self.all_exist(&parts.osds.up)
+            && self.all_reweighted_exist(&parts.weights)
             && self.knows_excepted(change)
     }
 }

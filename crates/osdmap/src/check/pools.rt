@@ -17,7 +17,7 @@ impl OsdMap {
     fn kept_pool(&self, change: &Change, id: u32) -> Option<Pool>
         ensures { result ≡ entry_at (λ p. p.id) (pools_kept self.now.map change.now) id }
     {
-        if has(&change.parts().old_pools, u64::from(id)) {
+        if has(&change.parts().pools.gone, u64::from(id)) {
             None
         } else {
             self.pool(id)
@@ -28,7 +28,7 @@ impl OsdMap {
     pub(crate) fn pool_there(&self, change: &Change, id: u32) -> Option<Pool>
         ensures { result ≡ pool_at (pools_there self.now.map change.now) id }
     {
-        match last_of(&change.parts().new_pools, u64::from(id)) {
+        match last_of(&change.parts().pools.come, u64::from(id)) {
             Some(pool) => Some(*pool),
             None => self.kept_pool(change, id),
         }
@@ -39,7 +39,7 @@ impl OsdMap {
         ensures { result ≡ pool_at (pools_after self.now.map change.now) id }
     {
         match self.pool_there(change, id) {
-            Some(pool) => Some(with_growths(&change.parts().grow_pool, pool)),
+            Some(pool) => Some(with_growths(&change.parts().pools.grow, pool)),
             None => None,
         }
     }
@@ -67,9 +67,9 @@ impl OsdMap {
 
     /// Whether each pool that grows is there then.
     fn grow_there(&self, change: &Change) -> bool
-        ensures { result ≡ list_all (λ g. has_pool (pools_there self.now.map change.now) g.pool) change.now.grow_pool }
+        ensures { result ≡ list_all (λ g. has_pool (pools_there self.now.map change.now) g.pool) change.now.pools.grow }
     {
-        let growths: &[Grow] = &change.parts().grow_pool;
+        let growths: &[Grow] = &change.parts().pools.grow;
         growths
             .iter()
             .all(|growth| self.has_pool_there(change, growth.pool()))
@@ -101,12 +101,12 @@ impl OsdMap {
         ensures { result ≡ names_pools self.now.map change.now }
     {
         let parts = change.parts();
-        self.all_pools(&parts.old_pools)
+        self.all_pools(&parts.pools.gone)
             && self.grow_there(change)
-            && self.have_pools(change, &parts.old_upmap)
-            && self.have_pools(change, &parts.old_items)
-            && self.have_pools(change, &parts.new_upmap)
-            && self.have_pools(change, &parts.new_items)
+            && self.have_pools(change, &parts.explicit.gone)
+            && self.have_pools(change, &parts.items.gone)
+            && self.have_pools(change, &parts.explicit.come)
+            && self.have_pools(change, &parts.items.come)
     }
 
     /// Whether no pool comes whose id stays.
@@ -114,7 +114,7 @@ impl OsdMap {
     pub(crate) fn brings_new(&self, change: &Change) -> bool
         ensures { result ≡ brings_new self.now.map change.now }
     {
-        let new: &[Pool] = &change.parts().new_pools;
+        let new: &[Pool] = &change.parts().pools.come;
         new.iter().all(|pool| !self.keeps_pool(change, pool.id()))
     }
 }

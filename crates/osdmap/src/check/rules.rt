@@ -48,7 +48,7 @@ impl OsdMap {
     fn rules_after<'a>(&'a self, change: &'a Change) -> &'a [NumberedRule]
         ensures { result.now ≡ rules_after self.now.map change.now }
     {
-        match &change.parts().new_crush {
+        match &change.parts().crush {
             Some(crush) => crush.rules(),
             None => self.crush.rules(),
         }
@@ -58,7 +58,7 @@ impl OsdMap {
     fn keep_rules(&self, change: &Change, rules: &[NumberedRule]) -> bool
         ensures { result ≡ list_all (has_rule rules.now) (pools_kept self.now.map change.now) }
     {
-        let old: &[u32] = &change.parts().old_pools;
+        let old: &[u32] = &change.parts().pools.gone;
         self.pools
             .iter()
             .filter(|pool| !has(old, u64::from(pool.id())))
@@ -70,7 +70,7 @@ impl OsdMap {
         ensures { result
             ≡ list_all (has_rule (rules_after self.now.map change.now)) (pools_kept self.now.map change.now) }
     {
-        match &change.parts().new_crush {
+        match &change.parts().crush {
             Some(crush) => self.keep_rules(change, crush.rules()),
             None => {
                 self.holds_together();
@@ -92,9 +92,9 @@ impl OsdMap {
 
     /// Whether no pool gets fewer groups.
     fn all_grow(&self, change: &Change) -> bool
-        ensures { result ≡ list_all (grows_from (pools_there self.now.map change.now)) change.now.grow_pool }
+        ensures { result ≡ list_all (grows_from (pools_there self.now.map change.now)) change.now.pools.grow }
     {
-        let growths: &[Grow] = &change.parts().grow_pool;
+        let growths: &[Grow] = &change.parts().pools.grow;
         growths.iter().all(|growth| self.grows(change, growth))
     }
 
@@ -102,7 +102,7 @@ impl OsdMap {
     fn count_left(&self, change: &Change) -> usize
         ensures { result ≡ length (pools_kept self.now.map change.now) }
     {
-        let old: &[u32] = &change.parts().old_pools;
+        let old: &[u32] = &change.parts().pools.gone;
         self.pools
             .iter()
             .filter(|pool| !has(old, u64::from(pool.id())))
@@ -113,7 +113,7 @@ impl OsdMap {
     fn count_kept(&self, change: &Change) -> usize
         ensures { result ≡ length (pools_kept self.now.map change.now) }
     {
-        if change.parts().old_pools.is_empty() {
+        if change.parts().pools.gone.is_empty() {
             self.pools().len()
         } else {
             self.count_left(change)
@@ -126,7 +126,7 @@ impl OsdMap {
         ensures { result ≡ nat_le (length (pools_there self.now.map change.now)) (most_pools change.now.profile) }
     {
         let _ = &self.pools;
-        let new: &[Pool] = &change.parts().new_pools;
+        let new: &[Pool] = &change.parts().pools.come;
         let most = change.parts().profile.most_pools();
         let kept = self.count_kept(change);
         kept <= most && put_count(&[], new) <= most - kept
@@ -135,17 +135,17 @@ impl OsdMap {
     /// How many groups the pools that stay have after a change.
     #[tactic(auto, unfolding(crate::specs::Changes::pools_kept))]
     fn groups_kept(&self, change: &Change) -> u128
-        ensures total { result ≡ total_groups (map (with_growths change.now.grow_pool)
+        ensures total { result ≡ total_groups (map (with_growths change.now.pools.grow)
             (pools_kept self.now.map change.now)) }
         ensures small { result < 2 ^ 100 }
     {
         let parts = change.parts();
-        let old: &[u32] = &parts.old_pools;
+        let old: &[u32] = &parts.pools.gone;
         let pools: &[Pool] = &self.pools;
         let mut total: u128 = 0;
         for pool in pools {
             if !has(old, u64::from(pool.id())) {
-                total += u128::from(with_growths(&parts.grow_pool, *pool).pg_num());
+                total += u128::from(with_growths(&parts.pools.grow, *pool).pg_num());
             }
         }
         total
@@ -158,8 +158,8 @@ impl OsdMap {
         ensures { result ≡ leaves_few_groups self.now.map change.now }
     {
         let _ = &self.pools;
-        let new: &[Pool] = &change.parts().new_pools;
-        let growths: &[Grow] = &change.parts().grow_pool;
+        let new: &[Pool] = &change.parts().pools.come;
+        let growths: &[Grow] = &change.parts().pools.grow;
         if new.is_empty() && growths.is_empty() {
             return true;
         }
@@ -179,7 +179,7 @@ impl OsdMap {
     {
         let rules = self.rules_after(change);
         self.rules_kept(change)
-            && have_rules(&change.parts().new_pools, rules)
+            && have_rules(&change.parts().pools.come, rules)
             && self.are_few(change)
             && self.all_grow(change)
             && self.leaves_few_groups(change)

@@ -8,7 +8,7 @@ use Rattle.osdmap.proofs.Leaving.{filter_twice}
 use Rattle.osdmap.proofs.in_place.change_exceptions.Goals as goal
 
 pub leave_groups-requires : goal.leave_groups-requires
-leave_groups-requires g c = (search rules, (rw c.leave_pools.ensures.items (rising-filter key_of _ _ c.requires.rising), c.requires.gone))
+leave_groups-requires g c = (search rules, (rw c.leave_pools.ensures.items (rising-filter key_of _ _ c.requires.rising), rw c.deref.ensures c.requires.gone))
 
 pub put_all-requires-clause-old : goal.put_all-requires-clause-old
 put_all-requires-clause-old g c =
@@ -16,11 +16,11 @@ put_all-requires-clause-old g c =
 
 pub put_all-requires-clause-room : goal.put_all-requires-clause-room
 put_all-requires-clause-room g c =
-    omega (arith, c.leave_groups.ensures.fewer, c.leave_pools.ensures.fewer, c.leave_groups.ensures.room, c.leave_pools.ensures.room, c.requires.room)
+    rw c.deref-2.ensures (omega (arith, c.leave_groups.ensures.fewer, c.leave_pools.ensures.fewer, c.leave_groups.ensures.room, c.leave_pools.ensures.room, c.requires.room))
 
 pub returns : goal.returns
 unfolding exceptions_after
 returns g c =
-    let left = c.leave_groups.ensures.items ∙ ap (filter (λ e. not (has_key pg_key c.args.gone.now (key_of e)))) c.leave_pools.ensures.items
-    ∙ filter_twice (λ e. not (has_key (λ (id : ℕ). id) c.args.old_pools.now e.pg.pool)) (λ e. not (has_key pg_key c.args.gone.now (key_of e))) c.args.exceptions.now.items in
-    c.put_all.ensures.items ∙ ap (λ es. fold (put key_of) es c.args.new.now) left
+    let left = (rw c.deref.ensures at c.leave_groups.ensures.items) ∙ ap (filter (λ e. not (has_key pg_key c.args.changes.now.gone (key_of e)))) c.leave_pools.ensures.items
+    ∙ filter_twice (λ e. not (has_key (λ (id : ℕ). id) c.args.gone_pools.now e.pg.pool)) (λ e. not (has_key pg_key c.args.changes.now.gone (key_of e))) c.args.exceptions.now.items in
+    (rw c.deref-2.ensures at c.put_all.ensures.items) ∙ ap (λ es. fold (put key_of) es c.args.changes.now.come) left

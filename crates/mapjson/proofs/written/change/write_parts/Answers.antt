@@ -11,7 +11,7 @@ pub returns-clause-tokens : goal.returns-clause-tokens
 returns-clause-tokens c =
     let parts = change_parts c.args.base c.args.parts.now in
     let first = c.in_ok-first_members.ensures.tokens ∙ ap (λ ts. ts ++ member_tokens (first_members parts)) c.in_ok-begin_object.ensures.ok in
-    let crush = c.in_ok-crush_member.ensures.tokens ∙ ap (λ ts. ts ++ member_tokens (crush_member parts.new_crush)) first in
+    let crush = c.in_ok-crush_member.ensures.tokens ∙ ap (λ ts. ts ++ member_tokens (crush_member parts.crush)) first in
     let last = c.in_ok-last_members.ensures.tokens ∙ ap (λ ts. ts ++ member_tokens (last_members parts)) crush in
     on_ok_weaker c.end_object.result (λ e. e ∙ ap (λ ts. ts ++ end_object ∷ []) last ∙ change_tokens parts c.args.out.now.tokens) c.end_object.ensures.ok
 
@@ -22,9 +22,4 @@ returns-clause-back c =
 pub returns-clause-named : goal.returns-clause-named
 returns-clause-named c =
     let n = c.in_ok-last_members.ensures.named in
-    on_ok_weaker c.end_object.result (λ e. record {
-      old_upmap = n.old_upmap;
-      old_items = n.old_items;
-      new_upmap = n.new_upmap;
-      new_items = n.new_items;
-    }) c.end_object.ensures.ok
+    on_ok_weaker c.end_object.result (λ e. record { explicit = record { gone = n.explicit.gone; come = n.explicit.come }; items = record { gone = n.items.gone; come = n.items.come } }) c.end_object.ensures.ok

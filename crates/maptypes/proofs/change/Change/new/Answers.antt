@@ -3,16 +3,15 @@ use Rattle.maptypes.proofs.change.Change.new.Goals as goal
 pub invariant_of-result : goal.invariant_of-result
 invariant_of-result c = record {
   in_order = record {
-    old_pools = c.in_ok-old_pools.ensures.some.ascending;
-    new_pools = c.in_ok-old_pools.ensures.others.ascending;
-    grow_pool = c.in_ok-grow_pool.ensures.ascending;
-    down = c.in_ok-down.ensures.some.ascending;
-    up = c.in_ok-down.ensures.others.ascending;
-    weight = c.in_ok-weight.ensures.ascending;
-    old_upmap = c.in_ok-old_upmap.ensures.some.ascending;
-    old_items = c.in_ok-old_items.ensures.some.ascending;
-    new_upmap = c.in_ok-old_upmap.ensures.others.ascending;
-    new_items = c.in_ok-old_items.ensures.others.ascending;
+    pools = record {
+      gone = c.in_ok-pools.ensures.gone.ascending;
+      come = c.in_ok-pools.ensures.come.ascending;
+      grow = c.in_ok-pools.ensures.grow.ascending;
+    };
+    osds = record { down = c.in_ok-osds.ensures.down.ascending; up = c.in_ok-osds.ensures.up.ascending };
+    weights = c.in_ok-weights.ensures.ascending;
+    explicit = record { gone = c.in_ok-explicit.ensures.gone.ascending; come = c.in_ok-explicit.ensures.come.ascending };
+    items = record { gone = c.in_ok-items.ensures.gone.ascending; come = c.in_ok-items.ensures.come.ascending };
   };
   pools_within = rw c.deref.ensures at c.are_within_limits.ensures;
   growths_within = rw c.deref-2.ensures at c.are_growths.ensures;

@@ -8,5 +8,5 @@ use Rattle.osdmap.proofs.map.OsdMap.groups_kept.Given as goal
 -- so many groups have those that stay of the pools so far
 abbrev pub invariant-loop-pool : goal.invariant-loop-pool
 invariant-loop-pool l =
-    (l.total ≡ total_groups (map (with_growths l.change.grow_pool) (filter (λ (q : PoolFacts). not (has_key (λ k. k) l.change.old_pools q.id)) (take l.pool-index l.pools))))
+    (l.total ≡ total_groups (map (with_growths l.change.pools.grow) (filter (λ (q : PoolFacts). not (has_key (λ k. k) l.change.pools.gone q.id)) (take l.pool-index l.pools))))
     × (l.total ≤ 2 ^ 32 * l.pool-index)

@@ -13,4 +13,4 @@ use Rattle.osdmap.proofs.map.OsdMap.keep_rules.Goals as goal
 pub returns : goal.returns
 returns c =
     let pools = ap (λ (k : StoredMap). k.map.pools) c.self.view_is in
-    rw (kept-is c.args.self.now.map c.args.change.now) (all_from_yields_List (has_rule c.args.rules.now) _ _ c.all.result c.all.ensures.ran (YieldsList-from_filter _ (λ (q : PoolFacts). not (has_key (λ (k : ℕ). k) c.args.change.now.old_pools q.id)) (YieldsList-from_slice c.args.self.now.map.pools (cc pools)) c.filter.ensures.closure (λ x b q k. search (rules, tests))) (λ x b q k. search (rules, tests)))
+    rw (kept-is c.args.self.now.map c.args.change.now) (all_from_yields_List (has_rule c.args.rules.now) _ _ c.all.result c.all.ensures.ran (YieldsList-from_filter _ (λ (q : PoolFacts). not (has_key (λ (k : ℕ). k) c.args.change.now.pools.gone q.id)) (YieldsList-from_slice c.args.self.now.map.pools (cc pools)) c.filter.ensures.closure (λ x b q k. search (rules, tests))) (λ x b q k. search (rules, tests)))

@@ -3,7 +3,7 @@ use Rattle.jsonstream.specs.Json.{whole_number, both_of}
 use Rattle.jsonstream.proofs.Taken.{read_on, refused_on}
 use Rattle.partjson.specs.StatedChanges.{reweight_of}
 use Rattle.partjson.specs.Places.{reweight_at}
-use Rattle.partjson.proofs.change.RawReweightFromJson.read.Goals as goal
+use Rattle.partjson.proofs.change.ReweightPartFromJson.read.Goals as goal
 
 pub returns-in_err-places : goal.returns-in_err-places
 returns-in_err-places c =

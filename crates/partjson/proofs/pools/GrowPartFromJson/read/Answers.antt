@@ -1,9 +1,9 @@
 use Rattle.std.proofs.Common.{Some, option_map, sym, ap, ◌∙◌, arith}
 use Rattle.jsonstream.specs.Json.{whole_number, three_of}
 use Rattle.jsonstream.proofs.Taken.{read_on, refused_on}
-use Rattle.partjson.specs.StatedChanges.{stated_growth}
+use Rattle.partjson.specs.StatedMaps.{stated_growth}
 use Rattle.partjson.specs.Places.{growth_at}
-use Rattle.partjson.proofs.change.GrowPartFromJson.read.Goals as goal
+use Rattle.partjson.proofs.pools.GrowPartFromJson.read.Goals as goal
 
 pub returns-in_err-places : goal.returns-in_err-places
 returns-in_err-places c =
