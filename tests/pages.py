@@ -602,7 +602,7 @@ class Pages(Case):
         self.assertEqual(ends, [min(of_maps), max(of_maps), min(others), max(others)])
 
     def test_parts_of_a_change(self) -> None:
-        """Each page that counts the parts of a change counts the fields of `ChangeParts`, of a family each of its own"""
+        """Each page that counts the parts of a change counts the fields of `ChangeParts`, of families theirs"""
         body = body_of("ChangeParts", text("crates", *CHANGE))
         alone = re.findall(r"^    pub (?!profile\b)\w+: (?!\w+Changes<)", body, re.M)
         count = len(alone) + sum(len(parts) for parts in families().values())
