@@ -153,7 +153,7 @@ def joined(world: World) -> Iterator[None]:
     """Has `together` find a cluster, wait for refusals less long, and leave the signals of this process alone."""
     rados = SimpleNamespace(Error=OSError, Rados=lambda conffile: world)
     with mock.patch.dict("sys.modules", rados=rados), mock.patch.object(together, "PAUSE", 0.05):
-        with mock.patch.object(together, "hold_back_signals"):
+        with mock.patch.object(together, "hold_back_signals"), mock.patch.object(together, "take_signals"):
             try:
                 yield
             finally:

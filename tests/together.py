@@ -20,7 +20,7 @@ import struct
 import subprocess
 import sys
 import tempfile
-from collections.abc import Callable
+from collections.abc import Callable, Iterator
 from concurrent.futures import ThreadPoolExecutor
 from typing import Any
 from unittest import mock
@@ -474,6 +474,37 @@ class Refusals(TogetherCase):
                 self.assertStarts(told, "refused: interrupted; the ")
                 self.tells(world, told)
                 self.assertEqual(world.crush == compiled(NEW), at > count)
+
+    def test_interrupted_at_the_end(self) -> None:
+        """A signal that comes as nothing more shall end the tool leaves no command that nobody waits for, and not its
+        interval."""
+        for at in (1, 2):
+            with self.subTest(at=at):
+                world, calls = self.world(), itertools.count(1)
+
+                def held(at: int = at, calls: Iterator[int] = calls) -> None:
+                    """Ends the tool at one of its calls."""
+                    if next(calls) == at:
+                        raise together.Ended(signal.SIGTERM)
+
+                with joined(world), mock.patch.object(together, "hold_back_signals", held):
+                    with self.assertRaises(Stop) as caught:
+                        self.told_in(world, "new", "hold.sh")
+                self.assertStarts(str(caught.exception), "interrupted; the ")
+                self.tells(world, str(caught.exception))
+                self.assertEqual((world.crush, world.interval), (compiled(NEW), "0.5"))
+
+    def test_second_signal(self) -> None:
+        """A signal ends the tool in order, and no other one then; one that is ignored stays so."""
+        for number in together.SIGNALS:
+            self.addCleanup(signal.signal, number, signal.getsignal(number))
+        signal.signal(signal.SIGHUP, signal.SIG_IGN)
+        together.take_signals()
+        signal.raise_signal(signal.SIGHUP)
+        with self.assertRaises(together.Ended):
+            signal.raise_signal(signal.SIGINT)
+        for number in together.SIGNALS:
+            signal.raise_signal(number)
 
     def test_elsewhere(self) -> None:
         """Where a group is elsewhere in the end, norebalance is left set, and the old CRUSH map is kept in a file."""

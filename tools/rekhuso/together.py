@@ -581,10 +581,12 @@ class Giving:
                     waits += [] if early else [threads.submit(self.cluster.ask, {"prefix": "osd setcrushmap"}, crush)]
             wait(waits)
         finally:
-            # Whatever ends this: only behind the answers it is known what stands.
-            hold_back_signals()
-            wait(waits, PATIENCE)
-            threads.shutdown(False)
+            # Whatever ends this, a signal just here too: only behind the answers it is known what stands.
+            try:
+                hold_back_signals()
+            finally:
+                wait(waits, PATIENCE)
+                threads.shutdown(False)
         for own in waits:
             own.result()
         if early:
@@ -593,6 +595,7 @@ class Giving:
     def in_one_map(self, seconds: float) -> None:
         """Gives all within one map. A Stop where something is refused; the interval is back in any case."""
         before = self.cluster.interval()
+        take_signals()
         try:
             self.cluster.set_interval(str(seconds))
             self.is_flagged = not self.before.has_flag()
@@ -603,8 +606,10 @@ class Giving:
             self.give(self.script.commands, self.crush)
             self.made = self.cluster.epoch() - epoch
         finally:
-            hold_back_signals()
-            self.put_back(before)
+            try:
+                hold_back_signals()
+            finally:
+                self.put_back(before)
 
     def take_back(self) -> None:
         """Brings the exceptions of before back where the CRUSH map is the old one, all at once."""
@@ -638,10 +643,27 @@ class Giving:
             raise Stop(f"{fault}; {INTERVAL} of {leader} was {before} and is not put back") from None
 
 
+class Ended(BaseException):
+    """A signal that ends this from outside."""
+
+
 def hold_back_signals() -> None:
     """From now on no signal ends this but one that cannot be held back."""
     for number in SIGNALS:
         signal.signal(number, signal.SIG_IGN)
+
+
+def end_by_signal(number: int, _: object) -> NoReturn:
+    """Ends this in order: no further signal comes between."""
+    hold_back_signals()
+    raise Ended(number)
+
+
+def take_signals() -> None:
+    """From now on a signal ends this in order, unless it is ignored already."""
+    for number in SIGNALS:
+        if signal.getsignal(number) is not signal.SIG_IGN:
+            signal.signal(number, end_by_signal)
 
 
 @contextlib.contextmanager
@@ -796,29 +818,19 @@ def give_and_end(giving: Giving, crush_files: List[str], seconds: float) -> None
     raise Stop(f"{why or 'not all stands'}; {told}")
 
 
-class Ended(BaseException):
-    """A signal that ends this from outside."""
-
-
-def end_by_signal(number: int, _: object) -> NoReturn:
-    """Ends this in order."""
-    raise Ended(number)
-
-
 def main() -> int:
     """Gives what the command line names to the cluster of a configuration."""
     parser = argparse.ArgumentParser(usage=f"%(prog)s {OWN_USE}", description=__doc__)
     parser.formatter_class = argparse.RawDescriptionHelpFormatter
     add_words(parser)
     own = parser.parse_args()
-    for number in (signal.SIGTERM, signal.SIGHUP):
-        signal.signal(number, end_by_signal)
     try:
+        take_signals()
         print(given(own.conf, own.files, own.seconds))
     except Stop as fault:
         print(fault, file=sys.stderr)
         return 1
-    except (KeyboardInterrupt, Ended):
+    except Ended:
         print("interrupted; nothing was given", file=sys.stderr)
         return 1
     return 0
