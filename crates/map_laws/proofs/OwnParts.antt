@@ -7,10 +7,6 @@ use Rattle.std.proofs.lemmas.Bool.Decides.{nat_tests}
 use Rattle.std.proofs.lemmas.List.Folds.{list_all-map}
 use Rattle.std.proofs.lemmas.List.Sorted.{IsPermutation-refl}
 use Rattle.std.proofs.lemmas.List.Sums.{AllPass-from_list_all}
-use Rattle.buckets.specs.declared.bucket.Bucket.{Bucket}
-use Rattle.buckets.specs.declared.bucket.Item.{Item}
-use Rattle.crush.specs.declared.step.Step.{Step as RuleStep}
-use Rattle.crush.specs.declared.step.Step.TheVariants as step
 use Rattle.crush.specs.WellFormed.{forest_ok}
 use Rattle.crush.specs.Grammar.{sets_tries, rule_ok}
 use Rattle.keylist.proofs.Counts.{find-place}
@@ -25,8 +21,8 @@ use Rattle.keylist.specs.Order.{IsRising}
 use Rattle.maptypes.specs.CrushMaps.{is_rule_over}
 use Rattle.osdmap.specs.Maps.{ClusterMap, osd_exists, has_rule, HoldsTogether}
 use Rattle.mapparts.specs.Parts.{is_between, pg_fits, is_osd_id, pair_fits, exception_fits, exceptions_fit, head_fits, lists_fit, parts_fit}
-use Rattle.maptypes.specs.Values.{item_of, bucket_of, step_of, pool_of, pair_of, exception_of, rule_of}
-use Rattle.osdmap.specs.PartsOf.{item_part, bucket_part, step_part, rule_part, pool_part, pair_part, exception_part, version_of, parts_of}
+use Rattle.maptypes.specs.Values.{bucket_of, step_of, pool_of, pair_of, exception_of, rule_of}
+use Rattle.osdmap.specs.PartsOf.{bucket_part, step_part, rule_part, pool_part, pair_part, exception_part, version_of, parts_of}
 use Rattle.maptypes.specs.Incrementals.{Step}
 use Rattle.osdmap.specs.Changes.{change_fault, apply}
 use Rattle.map_laws.specs.Laws.{IsTextEpoch, StatesItself}

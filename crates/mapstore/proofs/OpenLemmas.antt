@@ -1,26 +1,24 @@
 -- What is known of a store that was opened.
-use Rattle.std.proofs.Common.{◌≡◌, ◌∙◌, ℕ, ◌+◌, ◌<◌, ◌≤◌, ◌==◌, ◌&&◌, ◌++◌, Bool, true, false, List, [], ◌∷◌, Option, Some, None, if◌then◌else◌, Result, Ok, Err, IfOk, refl, sym, ap, subst, arith}
+use Rattle.std.proofs.Common.{◌≡◌, ◌∙◌, ℕ, ◌+◌, ◌≤◌, ◌==◌, ◌&&◌, Bool, true, false, List, [], ◌∷◌, Option, Some, None, if◌then◌else◌, Result, Ok, Err, IfOk, refl, sym, ap, subst, arith}
 use Rattle.std.specs.List.{All, AllZip}
 use Rattle.std.proofs.lemmas.Bool.Decides.{nat_tests}
 use Rattle.std.proofs.lemmas.List.{append-nil}
 use Rattle.std.proofs.lemmas.List.Elements.{All-nil, All-cons, All-head, All-tail}
 use Rattle.refusal.specs.declared.refused.Refusal.{Refusal}
 use Rattle.mapparts.specs.declared.profile.Profile.TheVariants.{Stock}
-use Rattle.maptypes.specs.declared.change.ChangeParts.{ChangeParts}
 use Rattle.maptypes.specs.Incrementals.{Step}
 use Rattle.osdmap.specs.Maps.{ClusterMap}
 use Rattle.osdmap.specs.Changes.{apply, after}
 use Rattle.replay.specs.declared.row.Row.{Row}
-use Rattle.replay.specs.Replays.{step_fault, MakesStep, StandFor}
+use Rattle.replay.specs.Replays.{MakesStep, StandFor}
 use Rattle.sqlite.specs.Store.{Ghosts}
-use Rattle.journalstore.specs.Read.{texts_read}
 use Rattle.journalstore.specs.Stores.{Holds}
 use Rattle.journalstore.specs.Texts.{Entry, Texts}
 use Rattle.mapjson.specs.Written.{written}
 use Rattle.mapjson.proofs.OneText.{one_map}
 use Rattle.mapstore.specs.JournalTexts.{with_steps, begun, IsTextedMap, IsTextedStep}
 use Rattle.mapstore.specs.Openings.{IsRow, IsMapOf}
-use Rattle.mapstore.specs.Stores.{HoldsJournal, IsBehind, past_of, texts_of}
+use Rattle.mapstore.specs.Stores.{HoldsJournal, past_of, texts_of}
 use Rattle.mapstore.specs.declared.store.MapStore.{MapStore}
 
 -- what follows of a value from two facts of it

@@ -1,5 +1,5 @@
 -- What the texts of a monitor's journal stand for.
-use Rattle.std.proofs.Common.{◌≡◌, ◌≢◌, ◌∙◌, ◌⊎◌, inl, inr, ℕ, zero, suc, ◌+◌, ◌-◌, ◌^◌, ◌<◌, ◌==◌, ◌&&◌, ◌++◌, Bool, true, List, [], ◌∷◌, map, drop, length, Option, Some, None, Vec, Global, if◌then◌else◌, refl, sym, ap, subst, arith, length-append}
+use Rattle.std.proofs.Common.{◌≡◌, ◌∙◌, inl, inr, ℕ, zero, suc, ◌+◌, ◌-◌, ◌^◌, ◌<◌, ◌==◌, ◌&&◌, ◌++◌, true, List, [], ◌∷◌, map, drop, length, Some, None, Vec, Global, refl, sym, ap, subst, arith, length-append}
 use denote.RawPtr.{null_ptr}
 use Rattle.std.specs.List.{All, AllZip, Contains}
 use Rattle.std.proofs.lemmas.Bool.Decides.{nat_tests}
@@ -21,12 +21,12 @@ use Rattle.replay.specs.Replays.{step_fault, MakesStep, IsRefused, StandFor}
 use Rattle.map_laws.specs.TextLaws.{IsTextOf}
 use Rattle.map_laws.specs.ChangeLaws.{IsTextOfChange, as_stock, IsJournalReadBack}
 use Rattle.epochlog.specs.Journals.{Journal}
-use Rattle.journalstore.specs.Texts.{Entry, Texts}
+use Rattle.journalstore.specs.Texts.{Entry}
 use Rattle.mapstore.specs.declared.error.OpenError.{OpenError}
 use Rattle.mapstore.specs.declared.error.OpenError.TheVariants.{Store, Journal as NoJournal, NoProfile, LateEpoch}
 use Rattle.mapstore.specs.JournalTexts.{word_of, change_text, row_text, step_entry, journal_texts, with_steps}
 use Rattle.mapstore.specs.OneJournal.{stands_behind}
-use Rattle.mapstore.specs.Openings.{IsRow, IsWordless, IsMapOf, IsUnopened}
+use Rattle.mapstore.specs.Openings.{IsRow, IsMapOf, IsUnopened}
 use Rattle.mapstore_laws.specs.OpeningLaws.{IsOfMonitor, AreShort, MayRefuse, IsOpenedBack, with_later}
 
 -- ---- one row

@@ -1,5 +1,5 @@
 -- What a store is opened with that held the journal of a monitor, and behind it what a crash leaves of later runs.
-use Rattle.std.specs.Prelude.{◌≡◌, ◌<◌, ◌^◌, ◌++◌, ⊤, ℕ, List, length}
+use Rattle.std.specs.Prelude.{◌≡◌, ◌<◌, ◌^◌, ◌++◌, ⊤, List, length}
 use Rattle.std.specs.List.{All}
 use Rattle.refusal.specs.declared.refused.Refusal.TheVariants.{Memory as OutOfMemory}
 use Rattle.mapparts.specs.Limits.{max_first_epoch}

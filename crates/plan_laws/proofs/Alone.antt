@@ -1,5 +1,5 @@
 -- Where OSDs carry nothing and one group decides, the plan is that of the pool by itself.
-use Rattle.std.proofs.Common.{◌≡◌, ◌∙◌, refl, sym, ap, ℕ, zero, suc, ◌+◌, ◌*◌, Bool, true, false, not, ◌&&◌, ◌||◌, ℤ, pos, List, [], ◌∷◌, inl, inr, arith}
+use Rattle.std.proofs.Common.{◌≡◌, ◌∙◌, refl, sym, ap, ℕ, zero, suc, ◌+◌, ◌*◌, true, false, not, ◌&&◌, ◌||◌, ℤ, pos, [], ◌∷◌, inl, inr, arith}
 use Rattle.std.specs.Prelude.{◌-ℤ◌, ◌*ℤ◌, int_lt}
 use Rattle.std.specs.List.{filter, find, list_all}
 use Rattle.std.specs.Option.{option_map_or}

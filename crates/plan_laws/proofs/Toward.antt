@@ -1,5 +1,5 @@
 -- A plan with carried counts is the plan toward the shares that they leave, which no move changes.
-use Rattle.std.proofs.Common.{◌≡◌, ◌∙◌, refl, sym, ap, subst, ℕ, zero, suc, ◌+◌, ◌*◌, ◌<◌, Bool, true, not, ◌&&◌, ◌||◌, ℤ, pos, List, [], ◌∷◌, map, Option, Some, None, arith}
+use Rattle.std.proofs.Common.{◌≡◌, ◌∙◌, refl, sym, ap, subst, ℕ, zero, suc, ◌+◌, ◌*◌, ◌<◌, true, not, ◌&&◌, ◌||◌, ℤ, pos, List, [], ◌∷◌, map, Option, Some, None, arith}
 use Rattle.std.specs.Prelude.{◌-ℤ◌, ◌+ℤ◌, ◌*ℤ◌, int_lt}
 use Rattle.std.specs.List.{All, filter, find, flat_map, list_all, range_with_len}
 use Rattle.std.specs.Option.{option_map_or}

@@ -1,7 +1,6 @@
 -- Rows that stand for incrementals, one more at a time.
 use Rattle.std.proofs.Common.{◌≡◌, ◌∙◌, ℕ, zero, suc, ◌+◌, ◌<◌, List, [], ◌∷◌, ◌++◌, length, take, drop, get_or, refl, sym, ap, subst, arith}
 use Rattle.std.proofs.Math.Seq.{take-suc}
-use Rattle.std.proofs.lemmas.List.{take-append-drop}
 use Rattle.mapparts.specs.declared.profile.Profile.{Profile}
 use Rattle.maptypes.specs.Incrementals.{Step}
 use Rattle.osdmap.specs.Maps.{ClusterMap}

@@ -1,5 +1,4 @@
 use Rattle.std.proofs.Common.{rules, map}
-use Rattle.std.proofs.lemmas.Result.{IfErr-weaker}
 use Rattle.journalstore.specs.Read.{entry_read}
 use Rattle.mapstore.specs.Openings.{IsUnread}
 use Rattle.mapstore.proofs.RowLemmas.{rows_more, unread_there}

@@ -1,5 +1,4 @@
 use Rattle.std.proofs.Common.{subst}
-use Rattle.journalstore.specs.Read.{texts_read}
 use Rattle.mapstore.specs.Openings.{IsMapOf}
 use Rattle.mapstore.proofs.OpenLemmas.{of_both}
 use Rattle.mapstore.proofs.opening.open.Goals as goal

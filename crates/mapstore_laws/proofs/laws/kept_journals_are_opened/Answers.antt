@@ -1,6 +1,5 @@
-use Rattle.std.proofs.Common.{◌≡◌, sym, subst}
+use Rattle.std.proofs.Common.{sym, subst}
 use Rattle.osdmap.specs.Maps.{HoldsTogether}
-use Rattle.mapjson.specs.Written.{written}
 use Rattle.map_laws.specs.TextLaws.{IsThereAndBack}
 use Rattle.journalstore.specs.Texts.{Texts}
 use Rattle.mapstore_laws.specs.OpeningLaws.{IsOpenedBack, with_later}

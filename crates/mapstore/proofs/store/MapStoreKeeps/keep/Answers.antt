@@ -1,6 +1,6 @@
 use Rattle.std.proofs.Common.{◌≡◌, ◌<◌, true, inl, rules, arith}
 use Rattle.mapstore.specs.JournalTexts.{step_entry}
-use Rattle.journalstore.specs.Texts.{Texts, bare_text, with_change, IsAfter, StandsFor}
+use Rattle.journalstore.specs.Texts.{bare_text, with_change}
 use Rattle.mapstore.specs.Laws.{settled_at}
 use Rattle.mapstore.proofs.KeepLemmas.{left_with, holds_with, holds_still}
 use Rattle.mapstore.proofs.store.MapStoreKeeps.keep.Goals as goal
