@@ -41,7 +41,8 @@ const WARY: &str =
     "Syncs each change twice, for a disk that may tear what it writes in a crash of the machine";
 
 const BY: &str =
-    "Puts this word beside each change of the run, which `rekhuso history` tells: at most 64 characters of visible ASCII";
+    "Puts this word beside each change of the run, which `rekhuso history` tells: at most 64 characters of visible \
+ASCII";
 
 const END_WHEN_FULL: &str =
     "Ends the run, with status 8, once it has taken as many changes as --journal says";
@@ -52,8 +53,8 @@ const BACKUP: &str =
     "Only makes a copy of the store in this new file, also while a program has it open, and tells its epoch";
 
 const WITHOUT_LOG: &str =
-    "Opens a store whose log is missing by its file alone, where a start that was refused for that has told this epoch: \
-changes behind it that the log alone had are lost";
+    "Opens a store whose log is missing by its file alone, where a start that was refused for that has told this \
+epoch: changes behind it that the log alone had are lost";
 
 const RESTORE: &str =
     "With --backup: the copy is to go on by itself, as a store with another number";
