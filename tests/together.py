@@ -497,7 +497,7 @@ class Refusals(TogetherCase):
     def test_second_signal(self) -> None:
         """A signal ends the tool in order, and no other one then; one that is ignored stays so."""
         for number in together.SIGNALS:
-            self.addCleanup(signal.signal, number, signal.getsignal(number))
+            self.addCleanup(signal.signal, number, signal.signal(number, signal.SIG_DFL))
         signal.signal(signal.SIGHUP, signal.SIG_IGN)
         together.take_signals()
         signal.raise_signal(signal.SIGHUP)
