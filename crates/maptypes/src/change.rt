@@ -20,12 +20,13 @@ use refusal::Memory;
 use std::alloc::Global;
 use std::marker::Model;
 
-/// The parts of a change by families, each list in any order.
+/// The parts of a change by families, each list in any order. Those of a family act in the order in which they stand in
+/// it.
 #[derive(Debug, Drop)]
 pub struct ChangeParts {
     /// By whose limit the pools after the change are counted: there may be 32, in a stock cluster 256.
     pub profile: Profile,
-    /// The pools that are taken away, come and grow. By those that stay or come the forest and the rules are judged.
+    /// The pools that are taken away with their exceptions, those that then come, and those that grow.
     pub pools: PoolChanges<u32, Pool, Grow>,
     /// The forest and the rules that come in place of those of the map.
     pub crush: Option<CrushMap>,
