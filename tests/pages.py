@@ -4,6 +4,7 @@ must not prove. Figures are those of figures.py."""
 
 from __future__ import annotations
 
+import functools
 import pathlib
 import re
 import unittest
@@ -190,6 +191,7 @@ def found_in(pattern: str, page: str, flags: int = 0) -> str:
     return found[min(1, found.re.groups)]
 
 
+@functools.lru_cache(None)
 def sources() -> dict[pathlib.Path, str]:
     """Each file of code, definitions and proofs, with its text."""
     return {
@@ -200,6 +202,7 @@ def sources() -> dict[pathlib.Path, str]:
     }
 
 
+@functools.lru_cache(None)
 def sources_of_things() -> dict[pathlib.Path, str]:
     """The sources but for tests and the folders of functions, which have any kind of thing and are no places of one."""
     texts = sources()
@@ -293,6 +296,7 @@ def code_in(path: pathlib.Path, source: str) -> str:
     return re.sub(rf"{'//' if path.suffix == '.rt' else '--'}.*|\b(?:{parts})\b", "", source)
 
 
+@functools.lru_cache(None)
 def keys_of_types() -> dict[str, list[str]]:
     """The fields of each type of what has keys of a map."""
     return {
@@ -301,6 +305,7 @@ def keys_of_types() -> dict[str, list[str]]:
     }
 
 
+@functools.lru_cache(None)
 def keys_of_records() -> dict[tuple[str, str], list[str]]:
     """The fields of the records of a map and of a pool."""
     found = {}
@@ -341,6 +346,7 @@ def named_in(source: str, kind: str, names: set[str]) -> set[str]:
     return names if "" in imports else names.intersection(found)
 
 
+@functools.lru_cache(None)
 def families() -> dict[str, list[str]]:
     """Of each family of the parts of a change, by its type, each part that a change has of it: a field of the family
     behind one of the change."""
@@ -494,8 +500,7 @@ class Pages(Case):
 
     def test_lists_of_places(self) -> None:
         """Each file that a list of CONTRIBUTING.md names is there, and each file of a crate that has a kind of bucket,
-        a line of a script, a part of a change or a refusal is in the list of its kind; but for tests and the folders of
-        functions"""
+        a line of a script or a refusal is in the list of its kind; but for tests and the folders of functions"""
         texts = sources_of_things()
         for heading, kinds in LISTS.items():
             places = listed(heading)
@@ -602,7 +607,7 @@ class Pages(Case):
         self.assertEqual(ends, [min(of_maps), max(of_maps), min(others), max(others)])
 
     def test_parts_of_a_change(self) -> None:
-        """Each page that counts the parts of a change counts the fields of `ChangeParts`, of families theirs"""
+        """Each page that counts the parts of a change counts those of `ChangeParts`, where a family has several"""
         body = body_of("ChangeParts", text("crates", *CHANGE))
         alone = re.findall(r"^    pub (?!profile\b)\w+: (?!\w+Changes<)", body, re.M)
         count = len(alone) + sum(len(parts) for parts in families().values())

@@ -3,7 +3,7 @@ ghost use Rattle.std.specs.Prelude.{◌≡◌, true, IsTrue, All, IfOk, map, pos
 ghost use Rattle.std.specs.List.{list_all};
 ghost use Rattle.std.specs.Option.{option_map_or};
 ghost use Rattle.buckets.specs.Limits.{max_devices};
-ghost use Rattle.mapparts.specs.Parts.{crush_fits, growth_fits, grows_evenly, has_enough_groups, is_between, is_osd_id, pool_fits};
+ghost use Rattle.mapparts.specs.Parts.{crush_fits, growth_fits, grows_evenly, has_enough_groups, is_between, pool_fits};
 ghost use Rattle.maptypes.specs.CrushMaps.{crush_fault, IsCrushOf};
 ghost use Rattle.maptypes.specs.Values.{growth_of, pool_of, pg_of};
 ghost use Rattle.refusal.specs.declared.refused.Refusal.TheVariants.{BadPool};
