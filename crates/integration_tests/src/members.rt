@@ -1,8 +1,8 @@
 //! What no clause says of members: that questions go on beside a look, that a gate is asked once for a line, and that
-//! there is memory for as many seats as there may be; and which changes a new monitor reads.
+//! there is memory for as many seats as there may be; which changes a new monitor reads; and that news are heard.
 ghost use Rattle.monitor.specs.Members.{IsMemberOf};
 
-use crate::examples::{FOUR_DEVICES, open_for_two};
+use crate::examples::{DOWN, FOUR_DEVICES, commit_now, open_for_two};
 use mapjson::read_map;
 use mapparts::Profile;
 use maptypes::Pg;
@@ -57,6 +57,21 @@ fn five_questions_are_answered_beside_a_look(rt: HostRuntime) -> Result<(), Fail
     Ok(())
 }
 
+/// The epoch that a member has seen once it has heard what another saw, who has made a change.
+fn epoch_heard<R: Wait + Threads + Sync>(rt: &R, alloc: Global) -> Option<u64> {
+    let (monitor, mut one, mut other) = open_for_two(rt, alloc, FOUR_DEVICES, 1024)?;
+    commit_now(rt, alloc, &monitor, &mut one, DOWN).ok()?;
+    let news = monitor.news(alloc, &one).ok()?;
+    monitor.hear(rt, &mut other, &news).ok()?;
+    Some(other.pass().epoch())
+}
+
+#[test]
+fn a_member_hears_what_another_has_seen(rt: HostRuntime) -> Result<(), Fail> {
+    assert!(rt; epoch_heard(&rt, rt.alloc()) == Some(2));
+    Ok(())
+}
+
 /// A gate that counts how often it is asked.
 #[derive(Clone, Copy)]
 struct Counting<'a> {
@@ -90,7 +105,7 @@ fn count_asks<R: Wait + Threads + Sync>(rt: &R, alloc: Global, script: &[u8]) ->
         monitor: &monitor,
         gate: &gate,
     };
-    match desk.run(&mut member, script, &mut answers) {
+    match desk.run(&mut member, &mut None, script, &mut answers) {
         Ok(()) => Some(count.load(Ordering::SeqCst)),
         Err(_) => None,
     }

@@ -99,7 +99,7 @@ fn run_cut_off<R: Wait + Threads + Sync>(
         monitor: &monitor,
         gate: &Open,
     };
-    let ended = desk.run(&mut member, script, &mut slow);
+    let ended = desk.run(&mut member, &mut None, script, &mut slow);
     let stands = monitor.epoch(rt, &mut other) == Ok(2);
     Some((ended, slow, stands))
 }
@@ -146,7 +146,7 @@ fn run_spent_seat<R: Wait + Threads + Sync>(
         monitor: &monitor,
         gate: &Open,
     };
-    let ended = desk.run(&mut member, script, &mut answers);
+    let ended = desk.run(&mut member, &mut None, script, &mut answers);
     Some((ended, answers))
 }
 
@@ -225,7 +225,7 @@ fn run_behind_gate<R: Wait + Threads + Sync>(
         monitor,
         gate: &gate,
     };
-    desk.run(&mut member, script, &mut answers)
+    desk.run(&mut member, &mut None, script, &mut answers)
 }
 
 /// Whether both of two sessions end well that run at once, where a line of the one is held until the other's change is
@@ -314,7 +314,7 @@ fn answers_by_draws<R: Wait + Threads + Sync>(
         monitor: &monitor,
         gate: &Open,
     };
-    match desk.run(&mut member, script.as_bytes(), &mut answers) {
+    match desk.run(&mut member, &mut None, script.as_bytes(), &mut answers) {
         Ok(()) => Some(answers),
         Err(_) => None,
     }
@@ -375,7 +375,7 @@ fn ask_cut_off<R: Wait + Threads + Sync>(
         monitor: &monitor,
         gate: &Open,
     };
-    let ended = desk.run(&mut member, FORTY.as_bytes(), &mut slow);
+    let ended = desk.run(&mut member, &mut None, FORTY.as_bytes(), &mut slow);
     let commits = commit_now(rt, alloc, &monitor, &mut other, DOWN).is_ok();
     Some((ended, slow, commits))
 }
@@ -410,6 +410,52 @@ fn a_run_of_questions_ends_at_each_failed_write(rt: HostRuntime) -> Result<(), F
     Ok(())
 }
 
+/// A gate that lets every line through, and counts how often it is asked.
+#[derive(Clone, Copy)]
+struct Counted<'a> {
+    asks: &'a AtomicU64,
+}
+
+impl<'a> Gate for Counted<'a> {
+    ghost use Rattle.std.specs.Prelude.{◌≡◌, true};
+
+    ghost lets = { λ _ _ passes. passes ≡ true };
+
+    fn pass(&self, _line: u64) -> bool {
+        let _ = self.asks.fetch_add(1, Ordering::SeqCst);
+        true
+    }
+
+    fn is_open(&self) -> bool {
+        true
+    }
+}
+
+/// How often such a gate is asked over forty questions.
+fn asks_for_forty<R: Wait + Threads + Sync>(rt: &R, alloc: Global) -> Option<u64> {
+    let (monitor, mut member, _) = open_for_two(rt, alloc, FOUR_DEVICES, MAX_DRAWS)?;
+    let asks = AtomicU64::new(0);
+    let gate = Counted { asks: &asks };
+    let mut answers = Buffer::new(alloc);
+    let desk = Desk {
+        alloc,
+        rt,
+        monitor: &monitor,
+        gate: &gate,
+    };
+    match desk.run(&mut member, &mut None, FORTY.as_bytes(), &mut answers) {
+        Ok(()) => Some(asks.load(Ordering::SeqCst)),
+        Err(_) => None,
+    }
+}
+
+/// A gate that were asked within a hold could keep the lock for as long as it likes.
+#[test]
+fn no_gate_is_asked_in_a_hold(rt: HostRuntime) -> Result<(), Fail> {
+    assert!(rt; asks_for_forty(&rt, rt.alloc()) == Some(0));
+    Ok(())
+}
+
 /// How often a session draws for three questions, to a sink whose writes may wait or do not.
 fn draws_for_three<R: Wait + Threads + Sync>(rt: &R, alloc: Global, waits: bool) -> Option<u64> {
     let (monitor, mut member, _) = open_for_two(rt, alloc, FOUR_DEVICES, MAX_DRAWS)?;
@@ -420,7 +466,7 @@ fn draws_for_three<R: Wait + Threads + Sync>(rt: &R, alloc: Global, waits: bool)
         monitor: &monitor,
         gate: &Open,
     };
-    match desk.run(&mut member, b"epoch\nepoch\nepoch\n", &mut slow) {
+    match desk.run(&mut member, &mut None, b"epoch\nepoch\nepoch\n", &mut slow) {
         Ok(()) => Some(MAX_DRAWS.saturating_sub(monitor.draws_left(&member))),
         Err(_) => None,
     }

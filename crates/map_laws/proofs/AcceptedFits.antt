@@ -15,7 +15,8 @@ use Rattle.keylist.proofs.Each.{all_more, all_both, list_all-agree}
 use Rattle.keylist.proofs.KeyedDistinct.{distinct-append}
 use Rattle.keylist.proofs.KeyedOrder.{distinct_rises}
 use Rattle.mapparts.specs.declared.profile.Profile.TheVariants.{Stock}
-use Rattle.mapparts.specs.Parts.{is_between, is_osd_id, crush_fits, pool_fits, growth_fits, pg_fits, pair_fits, exceptions_fit}
+use Rattle.mapparts.specs.Limits.{stock}
+use Rattle.mapparts.specs.Parts.{is_between, is_osd_id, crush_fits, pool_fits, growth_fits, pg_fits, pair_fits, exceptions_fit, crush_fits_in, entries_fit_in, growth_fits_in}
 use Rattle.maptypes.specs.declared.change.ChangeParts.{ChangeParts}
 use Rattle.maptypes.specs.declared.change.Reweight.{Reweight}
 use Rattle.maptypes.specs.declared.exception.Exception.{Exception}
@@ -35,7 +36,7 @@ use Rattle.maptypes.proofs.NamedParts.{comes}
 use Rattle.osdmap.proofs.Kept.{HoldsTogether-after, exists-after}
 use Rattle.osdmap.proofs.Named.{below_max}
 use Rattle.partjson.specs.Profiles.{brings_kinds}
-use Rattle.mapparts.specs.Changes.{is_pool_id, reweight_fits, entries_fit, change_fits}
+use Rattle.mapparts.specs.Changes.{is_pool_id, pool_ids_fit_in, reweight_fits, entries_fit, change_fits, change_fits_in, reweight_fits_in}
 use Rattle.mapjson.specs.PartsOfChange.{growth_part, reweight_part, crush_parts, change_parts}
 use Rattle.mapjson.specs.WrittenChanges.{fits_text}
 use Rattle.map_laws.specs.ChangeLaws.{AcceptedFits}
@@ -62,6 +63,7 @@ few_below key high xs rises below =
 
 -- a list that is short enough, and whose entries fit when each is made into a part
 list_fits : {X P : Type 0} (part : X → P) (fits : P → Bool) (xs : List X) → length xs ≤ 1048576 → list_all (λ x. fits (part x)) xs ≡ true → entries_fit fits (map part xs) ≡ true
+unfolding entries_fit_in
 list_fits part fits xs few all = let count = count_fits part 0 1048576 xs (omega arith) few in rw (count, list_all-map fits part xs ∙ all) refl
 
 -- ---- pools and groups
@@ -102,8 +104,8 @@ groups_fit pools gs within few rises there =
     list_fits pg_part pg_fits gs (omega (arith, count, few)) (all_more (has_group pools) (λ g. pg_fits (pg_part g)) gs (group_fits pools within) there)
 
 -- ids of pools that are there, upwards, fit
-ids_fit : (pools : List PoolFacts) (ids : List ℕ) → All IsWithinLimits pools → IsRising (λ id. id) ids → list_all (has_pool pools) ids ≡ true → entries_fit is_pool_id (map pos ids) ≡ true
-unfolding is_pool_id
+ids_fit : (pools : List PoolFacts) (ids : List ℕ) → All IsWithinLimits pools → IsRising (λ id. id) ids → list_all (has_pool pools) ids ≡ true → pool_ids_fit_in stock (map pos ids) ≡ true
+unfolding is_pool_id entries_fit_in
 ids_fit pools ids within rises there =
     let each : All (λ id. id < 65536) ids = All-weaker (λ id. has_pool pools id ≡ true) (λ id. id < 65536) (λ id here. let most = (id_within pools id within here).1 in omega (arith, most)) ids (AllPass-from_list_all (has_pool pools) ids there) in
     let count = few_below (λ id. id) 65536 ids rises each in
@@ -112,13 +114,14 @@ ids_fit pools ids within rises there =
 
 -- pools that come, by id upwards, fit
 new_pools_fit : (pools : List PoolFacts) → All IsWithinLimits pools → IsRising (λ p. p.id) pools → entries_fit pool_fits (map pool_part pools) ≡ true
+unfolding entries_fit_in
 new_pools_fit pools within rises =
     let count = few_below (λ (p : PoolFacts). p.id) 65536 pools rises (All-weaker IsWithinLimits (λ p. p.id < 65536) (λ p here. omega (arith, here.id_most)) pools within) in
     rw (count_fits pool_part 0 1048576 pools (omega arith) (omega (arith, count)), pools_fine pools within) refl
 
 -- a growth fits
 growth_fine : (g : Growth) → IsGrowth g → growth_fits (growth_part g) ≡ true
-unfolding growth_fits
+unfolding growth_fits_in
 growth_fine g within =
     let pool = natural_fits 1 65535 g.pool (omega (arith, within.pool_some)) within.pool_most in
     let pg_num = natural_fits 1 65536 g.pg_num (omega (arith, within.groups_some, within.groups_few)) within.groups_most in
@@ -134,7 +137,7 @@ growths_fit gs within rises =
 
 -- a CRUSH map fits, where there is one
 crush_fine : (k : Option CrushFacts) → IfSome k IsCrushMap → option_map_or crush_fits (option_map crush_parts k) true ≡ true
-unfolding crush_fits
+unfolding crush_fits_in
 crush_fine None is = refl
 crush_fine (Some k) is =
     rw (
@@ -174,7 +177,7 @@ module _ (m : ClusterMap) (c : ChangeParts) (holds : HoldsTogether m) (is : IsCh
 
   -- so do their new reweights
   weights_fit : list_all (λ w. osd_exists m w.osd) c.weights ≡ true → list_all (λ w. nat_le w.weight 65536) c.weights ≡ true → IsRising (λ w. w.osd) c.weights → entries_fit reweight_fits (map reweight_part c.weights) ≡ true
-  unfolding reweight_fits
+  unfolding reweight_fits_in
   weights_fit there light rises =
       let below : All (λ (w : Reweight). w.osd < 4096) c.weights = All-weaker (λ w. osd_exists m w.osd ≡ true) (λ w. w.osd < 4096) osd_below c.weights (AllPass-from_list_all (λ w. osd_exists m w.osd) c.weights there) in
       let count = few_below (λ (w : Reweight). w.osd) 4096 c.weights rises below in
@@ -247,7 +250,7 @@ module _ (m : ClusterMap) (c : ChangeParts) (holds : HoldsTogether m) (is : IsCh
 
   -- each limit
   limits : change_fits (change_parts 0 c) ≡ true
-  unfolding change_fits names_osds weighs_rightly names_pools names_groups all_named_groups
+  unfolding change_fits_in names_osds weighs_rightly names_pools names_groups all_named_groups
   limits =
       rw (
         natural_fits 0 18446744073709551615 0 (omega arith) (omega arith),

@@ -1,12 +1,13 @@
 -- What is written of a change is read back as that change.
-use Rattle.std.proofs.Common.{◌≡◌, ◌⊎◌, ◌∙◌, inl, inr, ℕ, ◌^◌, ◌<◌, true, ◌&&◌, ◌||◌, List, Some, None, Ok, refl, sym, subst, ap}
+use Rattle.std.proofs.Common.{◌≡◌, ◌⊎◌, ◌∙◌, inl, inr, ℕ, ◌^◌, ◌<◌, true, ◌&&◌, List, Some, None, Ok, refl, sym, subst, ap}
 use Rattle.std.specs.Prelude.{IfOk, option_map, pos}
 use Rattle.std.proofs.lemmas.Bool.{and_parts}
 use Rattle.std.proofs.lemmas.List.Elements.{All-map}
 use Rattle.refusal.specs.declared.refused.Refusal.{Refusal}
 use Rattle.refusal.specs.declared.refused.Refusal.TheVariants.{Memory as OutOfMemory}
 use Rattle.mapparts.specs.declared.profile.Profile.{Profile}
-use Rattle.mapparts.specs.Profiles.{is_stock}
+use Rattle.mapparts.specs.Profiles.{limits_of}
+use Rattle.mapparts.proofs.Wider.{change_fits_all}
 use Rattle.maptypes.specs.declared.change.ChangeParts.{ChangeParts}
 use Rattle.maptypes.specs.Ordered.{IsChange}
 use Rattle.osdmap.specs.PartsOf.{pg_part, pair_part, exception_part}
@@ -14,7 +15,7 @@ use Rattle.jsonstream.specs.Json.{stated_by}
 use Rattle.partjson.specs.StatedChanges.{stated_change}
 use Rattle.partjson.specs.Profiles.{brings_kinds, change_allowed, change_in}
 use Rattle.mapjson.specs.Written.{IsNamed}
-use Rattle.mapparts.specs.Changes.{change_is_plain, change_fits}
+use Rattle.mapparts.specs.Changes.{change_fits_in}
 use Rattle.mapjson.specs.ChangeTexts.{fault_of_stated_change, change_text_fault, IsChangeStated, StatesChange}
 use Rattle.mapjson.specs.PartsOfChange.{crush_parts, change_parts}
 use Rattle.mapjson.specs.WrittenChanges.{change_data, HasNamed, fits_text, written_change}
@@ -42,16 +43,14 @@ parts_named base c each = record {
 -- each test that a change passes which a text may state
 record Fits (c : ChangeParts) : Type 0 where
   kinds : brings_kinds c.profile (option_map crush_parts c.crush) ≡ true
-  plain : (is_stock c.profile || change_is_plain (change_parts 0 c)) ≡ true
-  limits : change_fits (change_parts 0 c) ≡ true
+  limits : change_fits_in (limits_of c.profile) (change_parts 0 c) ≡ true
 
 -- a change that a text may state passes each test by itself
 fits_each : (c : ChangeParts) → fits_text c.profile c ≡ true → Fits c
 unfolding fits_text
 fits_each c fits =
-    let limits = and_parts (brings_kinds c.profile (option_map crush_parts c.crush) && (is_stock c.profile || change_is_plain (change_parts 0 c))) (change_fits (change_parts 0 c)) fits in
-    let plain = and_parts (brings_kinds c.profile (option_map crush_parts c.crush)) (is_stock c.profile || change_is_plain (change_parts 0 c)) limits.0 in
-    record { kinds = plain.0; plain = plain.1; limits = limits.1 }
+    let both = and_parts (brings_kinds c.profile (option_map crush_parts c.crush)) (change_fits_in (limits_of c.profile) (change_parts 0 c)) fits in
+    record { kinds = both.0; limits = both.1 }
 
 module _ (base : ℕ) (c : ChangeParts) (wide : base < 2 ^ 64) (fits : Fits c) where
   -- what is written of it states its parts
@@ -59,7 +58,7 @@ module _ (base : ℕ) (c : ChangeParts) (wide : base < 2 ^ 64) (fits : Fits c) w
   unfolding written_change
   written_states named =
       let p = change_parts base c in
-      let readable = change_readable p (fits_with_base base c wide fits.limits) in
+      let readable = change_readable p (change_fits_all c.profile p (fits_with_base base c (limits_of c.profile) wide fits.limits)) in
       states_change_parts p (change_data p) _ named refl (IsUtf8-compact_text (change_data p) readable) (read-compact_text (change_data p) readable)
 
   -- so it does by its profile
@@ -76,7 +75,7 @@ module _ (base : ℕ) (c : ChangeParts) (wide : base < 2 ^ 64) (fits : Fits c) w
   written_alone is named =
       let states = written_states_in named in
       record {
-        faultless = ap (fault_of_stated_change c.profile) states ∙ own_change_faultless base c wide is fits.plain fits.limits;
+        faultless = ap (fault_of_stated_change c.profile) states ∙ own_change_faultless base c wide is fits.limits;
         states = subst (λ r. IfOk r (λ p. IsChangeStated c.profile p base c)) (sym states) (own_change_stated base c is);
         alone = λ other stated. own_change_alone base c is other (subst (λ r. IfOk r (λ p. IsChangeStated c.profile p other.0 other.1)) states stated);
       }

@@ -1,5 +1,5 @@
 -- The parts of a change state that change, and nothing is wrong with them where they are within the limits.
-use Rattle.std.proofs.Common.{◌≡◌, ◌∙◌, ℕ, ◌^◌, ◌<◌, pos, nat_abs, true, ◌||◌, List, map, Option, Some, None, refl, ap, arith}
+use Rattle.std.proofs.Common.{◌≡◌, ◌∙◌, ℕ, ◌^◌, ◌<◌, pos, nat_abs, true, List, map, Option, Some, None, refl, ap, arith}
 use Rattle.std.specs.Prelude.{IfSome, option_map}
 use Rattle.std.proofs.lemmas.Bool.Decides.{nat_tests}
 use Rattle.std.proofs.lemmas.List.Elements.{All-weaker}
@@ -12,7 +12,8 @@ use Rattle.keylist.proofs.Each.{all_more, map_twice}
 use Rattle.keylist.proofs.Distinct.{rising_distinct}
 use Rattle.mapparts.specs.declared.parts.RulePart.{RulePart}
 use Rattle.mapparts.specs.Parts.{has_enough_groups, grows_evenly}
-use Rattle.mapparts.specs.Profiles.{is_stock}
+use Rattle.mapparts.specs.declared.limits.Limits.{Limits}
+use Rattle.mapparts.specs.Profiles.{limits_of}
 use Rattle.maptypes.specs.declared.change.ChangeParts.{ChangeParts}
 use Rattle.maptypes.specs.declared.rules.NumberedRule.{NumberedRule}
 use Rattle.maptypes.specs.CrushMaps.{CrushFacts, is_rule_over, is_lawful, IsCrushMap, IsCrushOf}
@@ -22,7 +23,7 @@ use Rattle.maptypes.specs.Ordered.{IsInOrder, IsChange, IsOrdered}
 use Rattle.maptypes.specs.Pools.{PoolFacts, IsWithinLimits}
 use Rattle.maptypes.specs.Values.{bucket_of, step_of, rule_of, pool_of, growth_of, pg_of, pair_of, exception_of}
 use Rattle.osdmap.specs.PartsOf.{bucket_part, step_part, rule_part, pool_part, pg_part, pair_part, exception_part}
-use Rattle.mapparts.specs.Changes.{change_is_plain, change_fits, are_even}
+use Rattle.mapparts.specs.Changes.{change_fits_in, are_even}
 use Rattle.mapjson.specs.ChangeTexts.{reweight_within, parts_within, new_crush_fault, IsCrushStated, change_fault_in, IsChangeStated}
 use Rattle.mapjson.specs.PartsOfChange.{growth_part, reweight_part, crush_parts, change_parts}
 use Rattle.mapjson.proofs.OwnValues.{natural_fits, map_own, bucket_own, step_own, rule_own, pool_own, number_own, pair_own, exception_own}
@@ -185,17 +186,12 @@ module _ (base : ℕ) (c : ChangeParts) where
   -- ---- faults
 
   -- the limits do not hang on the base
-  pub fits_with_base : base < 2 ^ 64 → change_fits (change_parts 0 c) ≡ true → change_fits (change_parts base c) ≡ true
-  unfolding change_fits
-  fits_with_base wide fits = grind (arith, fits, natural_fits 0 18446744073709551615 base (omega arith) (omega arith))
-
-  -- nor do those of plain clusters
-  plain_with_base : (is_stock c.profile || change_is_plain (change_parts 0 c)) ≡ true → (is_stock c.profile || change_is_plain (change_parts base c)) ≡ true
-  unfolding change_is_plain
-  plain_with_base fits = fits
+  pub fits_with_base : (l : Limits) → base < 2 ^ 64 → change_fits_in l (change_parts 0 c) ≡ true → change_fits_in l (change_parts base c) ≡ true
+  unfolding change_fits_in
+  fits_with_base l wide fits = grind (arith, fits, natural_fits 0 18446744073709551615 base (omega arith) (omega arith))
 
   -- a change that a text may state has no fault
-  pub own_change_faultless : base < 2 ^ 64 → IsChange c → (is_stock c.profile || change_is_plain (change_parts 0 c)) ≡ true → change_fits (change_parts 0 c) ≡ true
+  pub own_change_faultless : base < 2 ^ 64 → IsChange c → change_fits_in (limits_of c.profile) (change_parts 0 c) ≡ true
       → change_fault_in c.profile (change_parts base c) ≡ None
-  own_change_faultless wide is plain fits =
-      rw (plain_with_base plain, fits_with_base wide fits, crush_is_faultless c.crush is.crush_map, own_even base c is) refl
+  own_change_faultless wide is fits =
+      rw (fits_with_base (limits_of c.profile) wide fits, crush_is_faultless c.crush is.crush_map, own_even base c is) refl

@@ -20,7 +20,7 @@ use Rattle.crush.specs.Grammar.{step_limits_ok}
 use Rattle.keylist.proofs.Each.{list_all-at, list_all-from}
 use Rattle.maptypes.specs.declared.rules.NumberedRule.{NumberedRule}
 use Rattle.maptypes.specs.CrushMaps.{is_rule_over}
-use Rattle.mapparts.specs.Parts.{is_between, has_between, item_fits, bucket_fits, step_fits, rule_fits, has_few_groups, pool_fits}
+use Rattle.mapparts.specs.Parts.{is_between, has_between, item_fits, bucket_fits, step_fits, rule_fits, has_few_groups, pool_fits, bucket_fits_in, item_fits_in, pool_fits_in, rule_fits_in, step_fits_in}
 use Rattle.osdmap.specs.PartsOf.{item_part, bucket_part, step_part, rule_part, pool_part}
 use Rattle.mapparts.specs.declared.parts.PoolPart.{PoolPart}
 use Rattle.maptypes.specs.Pools.{PoolFacts, total_groups, IsWithinLimits}
@@ -59,7 +59,7 @@ no_item = record { id = pos 0; weight = 0 }
 
 -- an item within the limits fits a text
 item_fine : (i : Item) → item_limits_ok i ≡ true → i.weight ≤ 4294967295 → item_fits (item_part i) ≡ true
-unfolding item_fits is_between
+unfolding item_fits_in is_between
 item_fine i limits light = grind (arith, nat_tests, limits, light)
 
 -- so do all of a bucket
@@ -71,15 +71,23 @@ items_fine items limits light =
     let few : (get_or items k no_item).weight ≤ 4294967295 = grind (arith, nat_tests, light, most) in
     item_fine (get_or items k no_item) (list_all-at item_limits_ok items k no_item inside limits) few)
 
+-- no kind of bucket has more than 4,096 items
+few_items : (kind : BucketKind) → most_items kind ≤ 4096
+few_items Uniform = omega arith
+few_items InList = omega arith
+few_items Tree = omega arith
+few_items Straw2 = omega arith
+
 -- a bucket within the limits fits
 bucket_fine : (b : Bucket) → bucket_limits_ok b ≡ true → weights_ok b.kind b.items ≡ true → bucket_fits (bucket_part b) ≡ true
-unfolding bucket_fits
+unfolding bucket_fits_in
 bucket_fine b limits weights =
     let id : is_bucket_id b.id ≡ true = grind (arith, limits) in
     let level = within_fits 1 15 b.level (grind (arith, limits)) in
     let count = within_counts item_part 1 (most_items b.kind) b.items (grind (arith, limits)) in
+    let few = count_fits item_part 0 4096 b.items (omega arith) (grind (arith, nat_tests, limits, few_items b.kind)) in
     let items = items_fine b.items (grind (arith, limits)) (weights_light b.kind b.items weights) in
-    rw (id, level, count, items) refl
+    rw (id, level, count, few, items) refl
 
 -- so do all of a forest
 pub buckets_fine : (buckets : List Bucket) → list_all bucket_limits_ok buckets ≡ true → list_all (λ b. weights_ok b.kind b.items) buckets ≡ true → list_all bucket_fits (map bucket_part buckets) ≡ true
@@ -94,7 +102,7 @@ buckets_fine (b ∷ bs) limits weights =
 
 -- a step within the limits fits
 step_fine : (s : Step) → step_limits_ok s ≡ true → step_fits (step_part s) ≡ true
-unfolding step_fits
+unfolding step_fits_in
 step_fine (step.SetChooseTries n) h = natural_fits 1 200 n (grind (arith, nat_tests, h)) (grind (arith, nat_tests, h))
 step_fine (step.SetChooseleafTries n) h = natural_fits 1 200 n (grind (arith, nat_tests, h)) (grind (arith, nat_tests, h))
 step_fine (step.SetChooseleafVaryR n) h = natural_fits 0 4 n (omega arith) (grind (arith, nat_tests, h))
@@ -108,7 +116,7 @@ step_fine step.Emit h = refl
 
 -- a rule over some buckets fits
 rule_fine : (buckets : List Bucket) (r : NumberedRule) → is_rule_over buckets r ≡ true → rule_fits (rule_part r) ≡ true
-unfolding is_rule_over rule_fits
+unfolding is_rule_over rule_fits_in
 rule_fine buckets r h =
     let id = natural_fits 0 255 r.id (omega arith) (grind (arith, nat_tests, h)) in
     let count = within_counts step_part 1 16 r.rule.steps (grind (arith, h)) in
@@ -123,7 +131,7 @@ rules_fine buckets rules all = list_all-map rule_fits rule_part rules ∙ all_mo
 
 -- a pool within the limits fits
 pool_fine : (p : PoolFacts) → IsWithinLimits p → pool_fits (pool_part p) ≡ true
-unfolding pool_fits
+unfolding pool_fits_in
 pool_fine p within =
     let id = natural_fits 1 65535 p.id (omega (arith, within.id_some)) within.id_most in
     let pg_num = natural_fits 1 65536 p.pg_num (omega (arith, within.groups_some, within.groups_few)) within.groups_most in

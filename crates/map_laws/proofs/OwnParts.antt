@@ -20,7 +20,7 @@ use Rattle.keylist.specs.Keys.{is_distinct, entry_at}
 use Rattle.keylist.specs.Order.{IsRising}
 use Rattle.maptypes.specs.CrushMaps.{is_rule_over}
 use Rattle.osdmap.specs.Maps.{ClusterMap, osd_exists, has_rule, HoldsTogether}
-use Rattle.mapparts.specs.Parts.{is_between, pg_fits, is_osd_id, pair_fits, exception_fits, exceptions_fit, head_fits, lists_fit, parts_fit}
+use Rattle.mapparts.specs.Parts.{is_between, pg_fits, is_osd_id, pair_fits, exception_fits, exceptions_fit, parts_fit, entries_fit_in, exception_fits_in, head_fits_in, is_osd_id_in, lists_fit_in, pair_fits_in, parts_fit_in}
 use Rattle.maptypes.specs.Values.{bucket_of, step_of, pool_of, pair_of, exception_of, rule_of}
 use Rattle.osdmap.specs.PartsOf.{bucket_part, step_part, rule_part, pool_part, pair_part, exception_part, version_of, parts_of}
 use Rattle.maptypes.specs.Incrementals.{Step}
@@ -105,7 +105,7 @@ module _ (m : ClusterMap) (holds : HoldsTogether m) where
 
     -- its part is within the limits
     one_fits : (e : Exception E) → is_exception names sound m.pools (osd_exists m) e ≡ true → exception_fits fits (exception_part entry_part e) ≡ true
-    unfolding exception_fits pg_fits
+    unfolding exception_fits_in pg_fits
     one_fits e h =
         let pool = of_pool e h in
         let named = and_second (has_group m.pools e.pg) (all_named names (osd_exists m) e) (and_first (has_group m.pools e.pg && all_named names (osd_exists m) e) (is_sound sound m.pools e) h) in
@@ -115,7 +115,7 @@ module _ (m : ClusterMap) (holds : HoldsTogether m) where
 
     -- so are the parts of exceptions whose groups rise, and these are not too many
     pub exceptions_fine : (es : List (Exception E)) → IsRising key_of es → list_all (is_exception names sound m.pools (osd_exists m)) es ≡ true → exceptions_fit fits (map (exception_part entry_part) es) ≡ true
-    unfolding exceptions_fit
+    unfolding entries_fit_in
     exceptions_fine es rises all =
         let there = AllPass-from_list_all (λ e. has_group m.pools e.pg) es
         (all_more (is_exception names sound m.pools (osd_exists m)) (λ e. has_group m.pools e.pg) es
@@ -127,7 +127,7 @@ module _ (m : ClusterMap) (holds : HoldsTogether m) where
 
   -- an OSD that exists has a number within the limits
   pub osd_fine : (osd : ℕ) → osd_exists m osd ≡ true → is_osd_id (pos osd) ≡ true
-  unfolding is_osd_id
+  unfolding is_osd_id_in
   osd_fine osd there =
       let below = below_max m osd (length m.presences) (omega arith) there in
       natural_fits 0 4095 osd (omega arith) (grind (arith, nat_tests, below, holds.osds.few))
@@ -138,7 +138,7 @@ module _ (m : ClusterMap) (holds : HoldsTogether m) where
 
   -- a pair of OSDs that exist is within the limits
   pub pair_fine : (p : Pair) → list_all (osd_exists m) (sides p) ≡ true → pair_fits (pair_part p) ≡ true
-  unfolding pair_fits
+  unfolding pair_fits_in
   pair_fine p there =
       rw (
         osd_fine p.from (and_first (osd_exists m p.from) (osd_exists m p.to && true) there),
@@ -149,7 +149,7 @@ module _ (m : ClusterMap) (holds : HoldsTogether m) where
 
   -- the parts of a map whose epoch a text may have are within the limits
   own_limits : 1 ≤ m.epoch → m.epoch ≤ 2147483648 → parts_fit (parts_of m) ≡ true
-  unfolding parts_fit head_fits lists_fit parts_of
+  unfolding parts_fit_in head_fits_in lists_fit_in parts_of
   own_limits some most =
       rw (
         version_fine m.rules,

@@ -10,7 +10,7 @@ use Rattle.refusal.specs.declared.refused.Refusal.TheVariants.{Memory as OutOfMe
 use Rattle.osdmap.specs.Maps.{ClusterMap}
 use Rattle.crush.specs.WellFormed.{forest_ok}
 use Rattle.maptypes.specs.Exceptions.{target, sides, is_set, are_pairs}
-use Rattle.mapparts.specs.Parts.{is_osd_id, pair_fits, osd_fits, pool_fits, has_few_groups, exception_fits, exceptions_fit, parts_fit}
+use Rattle.mapparts.specs.Parts.{is_osd_id, pair_fits, osd_fits, pool_fits, has_few_groups, exception_fits, exceptions_fit, parts_fit, entries_fit_in, parts_fit_in}
 use Rattle.maptypes.specs.Values.{pool_of, pair_of}
 use Rattle.osdmap.specs.Stated.{buckets_of, rules_ok, pools_ok, osds_ok, is_listed, exceptions_ok, explicit_of, all_exceptions_ok, map_fault, IsStated}
 use Rattle.osdmap.specs.PartsOf.{parts_of}
@@ -78,7 +78,7 @@ lawful_fits p h = by_tests (parts_fit p) (forest_ok (buckets_of p) (nat_abs p.ma
 
 -- the groups of parts with no fault are read back
 lawful_named : (p : MapParts) → parts_fit p ≡ true → all_exceptions_ok p ≡ true → AreNamed p.pg_upmap × AreNamed p.pg_upmap_items
-unfolding parts_fit exceptions_fit all_exceptions_ok
+unfolding parts_fit_in entries_fit_in all_exceptions_ok
 lawful_named p fits ok =
     let items = and_parts _ (exceptions_fit pair_fits p.pg_upmap_items) fits in
     let explicit = and_parts _ (exceptions_fit is_osd_id p.pg_upmap) items.0 in

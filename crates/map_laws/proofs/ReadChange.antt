@@ -1,5 +1,5 @@
 -- A change that a text states is one that a text may state.
-use Rattle.std.proofs.Common.{◌≡◌, ◌∙◌, ℕ, ℤ, pos, nat_abs, Bool, true, false, not, ◌&&◌, ◌||◌, List, [], ◌∷◌, map, IsPermutation, Option, Some, None, Ok, Err, refl, sym, ap, subst, if◌then◌else◌, arith}
+use Rattle.std.proofs.Common.{◌≡◌, ◌∙◌, ℕ, ℤ, pos, nat_abs, Bool, true, false, not, ◌&&◌, List, [], ◌∷◌, map, IsPermutation, Option, Some, None, Ok, Err, refl, sym, ap, subst, if◌then◌else◌, arith}
 use Rattle.std.specs.Prelude.{⊤, nat_le, option_map, IfOk, Result}
 use Rattle.std.specs.List.{list_all}
 use Rattle.std.specs.Option.{option_map_or, option_or}
@@ -24,9 +24,10 @@ use Rattle.mapparts.specs.declared.parts.CrushParts.{CrushParts}
 use Rattle.mapparts.specs.declared.parts.ExceptionPart.{ExceptionPart}
 use Rattle.mapparts.specs.declared.parts.PairPart.{PairPart}
 use Rattle.mapparts.specs.declared.pg_parts.PgParts.{PgParts}
-use Rattle.mapparts.specs.Parts.{is_between, has_between, is_osd_id, item_fits, bucket_fits, step_fits, rule_fits, crush_fits, pool_fits, growth_fits, pg_fits, pair_fits, exception_fits, exceptions_fit}
-use Rattle.mapparts.specs.Profiles.{is_stock, is_plain_kind, is_plain_word}
-use Rattle.mapparts.specs.Plain.{osd_is_plain, pool_is_plain, growth_is_plain, bucket_is_plain, step_is_plain, crush_is_plain, pair_is_plain, exception_is_plain}
+use Rattle.mapparts.specs.Parts.{is_between, has_between, is_osd_id, item_fits, bucket_fits, step_fits, rule_fits, crush_fits, pool_fits, growth_fits, pg_fits, pair_fits, exception_fits, bucket_fits_in, crush_fits_in, entries_fit_in, exception_fits_in, is_osd_id_in, item_fits_in, pair_fits_in, rule_fits_in, step_fits_in, pool_fits_in, growth_fits_in}
+use Rattle.mapparts.specs.Profiles.{limits_of, is_plain_kind, is_plain_word}
+use Rattle.mapparts.specs.declared.limits.Limits.{Limits}
+use Rattle.mapparts.proofs.Wider.{change_fits_all}
 use Rattle.mapparts.proofs.Within.{natural_between, pool_fits_each, growth_fits_each}
 use Rattle.maptypes.specs.CrushMaps.{CrushFacts}
 use Rattle.maptypes.specs.Values.{item_of, bucket_of, step_of, rule_of, pool_of, growth_of, pg_of, pair_of, exception_of}
@@ -40,7 +41,7 @@ use Rattle.mapparts.specs.declared.change.RawChange.{RawChange}
 use Rattle.mapparts.specs.declared.change.ReweightPart.{ReweightPart}
 use Rattle.partjson.specs.StatedChanges.{stated_change}
 use Rattle.partjson.specs.Profiles.{brings_kinds, change_allowed, change_in}
-use Rattle.mapparts.specs.Changes.{is_pool_id, reweight_fits, change_fits, change_is_plain, are_even}
+use Rattle.mapparts.specs.Changes.{is_pool_id, reweight_fits, change_fits, are_even, change_fits_in, reweight_fits_in}
 use Rattle.mapjson.specs.ChangeTexts.{reweight_within, new_crush_fault, IsCrushStated, change_fault_in, fault_of_stated_change, IsChangeStated}
 use Rattle.mapjson.specs.PartsOfChange.{growth_part, reweight_part, crush_parts, change_parts}
 use Rattle.mapjson.specs.WrittenChanges.{fits_text}
@@ -74,7 +75,7 @@ natural_back low high z h = sym (natural_between low high z h).is
 
 -- so is a number that an OSD may have
 osd_back : (z : ℤ) → is_osd_id z ≡ true → pos (nat_abs z) ≡ z
-unfolding is_osd_id
+unfolding is_osd_id_in
 osd_back z h = natural_back 0 4095 z h
 
 -- and one that a pool may have
@@ -84,24 +85,25 @@ pool_id_back z h = natural_back 1 65535 z h
 
 -- an item whose weight is within its limits is the part of the item that it states
 item_back : (i : ItemPart) → item_fits i ≡ true → item_part (item_of i) ≡ i
-unfolding item_fits
+unfolding item_fits_in
 item_back i h =
     let weight = natural_back 1 4294967295 i.weight (and_parts _ (is_between (pos 1) (pos 4294967295) i.weight) h).1 in
     λ t. record { id = i.id; weight = weight t }
 
 -- so is a bucket with its level and items
 bucket_back : (b : BucketPart) → bucket_fits b ≡ true → bucket_part (bucket_of b) ≡ b
-unfolding bucket_fits
+unfolding bucket_fits_in
 bucket_back b h =
     let items = and_parts _ (list_all item_fits b.items) h in
-    let many = and_parts _ (has_between 1 (most_items b.kind) b.items) items.0 in
+    let few = and_parts _ (has_between 0 4096 b.items) items.0 in
+    let many = and_parts _ (has_between 1 (most_items b.kind) b.items) few.0 in
     let level = natural_back 1 15 b.level (and_parts _ (is_between (pos 1) (pos 15) b.level) many.0).1 in
     let own = parts_back item_of item_part item_fits item_back b.items items.1 in
     λ t. record { id = b.id; level = level t; kind = b.kind; items = own t }
 
 -- so is each step of a rule
 step_back : (s : StepPart) → step_fits s ≡ true → step_part (step_of s) ≡ s
-unfolding step_fits
+unfolding step_fits_in
 step_back (SetChooseTries n) h = ap (λ z. SetChooseTries z) (natural_back 1 200 n h)
 step_back (SetChooseleafTries n) h = ap (λ z. SetChooseleafTries z) (natural_back 1 200 n h)
 step_back (SetChooseleafVaryR n) h = ap (λ z. SetChooseleafVaryR z) (natural_back 0 4 n h)
@@ -116,7 +118,7 @@ step_back Emit h = refl
 
 -- so is a rule with its number and steps
 rule_back : (r : RulePart) → rule_fits r ≡ true → rule_part (rule_of r) ≡ r
-unfolding rule_fits
+unfolding rule_fits_in
 rule_back r h =
     let steps = and_parts _ (list_all step_fits r.steps) h in
     let id = natural_back 0 255 r.id (and_parts (is_between (pos 0) (pos 255) r.id) _ steps.0).0 in
@@ -145,7 +147,7 @@ growth_back g h =
 
 -- so is the new weight of an OSD
 reweight_back : (w : ReweightPart) → reweight_fits w ≡ true → reweight_part (reweight_within w) ≡ w
-unfolding reweight_fits
+unfolding reweight_fits_in
 reweight_back w h =
     let each = and_parts (is_osd_id w.osd) (is_between (pos 0) (pos 4294967295) w.weight) h in
     let osd = osd_back w.osd each.0 in
@@ -165,7 +167,7 @@ group_back g h = whole_group g.pool g.number h
 
 -- so is a pair of OSDs
 pair_back : (p : PairPart) → pair_fits p ≡ true → pair_part (pair_of p) ≡ p
-unfolding pair_fits
+unfolding pair_fits_in
 pair_back p h =
     let each = and_parts (is_osd_id p.from) (is_osd_id p.to) h in
     let from = osd_back p.from each.0 in
@@ -175,7 +177,7 @@ pair_back p h =
 -- so is an exception, where it is so of each of its entries
 exception_back : {P E : Type 0} (value : P → E) (part : E → P) (fits : P → Bool) → ((p : P) → fits p ≡ true → part (value p) ≡ p)
     → (e : ExceptionPart P) → exception_fits fits e ≡ true → exception_part part (exception_of value e) ≡ e
-unfolding exception_fits
+unfolding exception_fits_in
 exception_back value part fits back e h =
     let entries = and_parts _ (list_all fits e.entries) h in
     let pg = group_back e.pg (and_parts (pg_fits e.pg) _ entries.0).0 in
@@ -193,7 +195,7 @@ IsCrushMoved (Some p) (Some q) = IsPermutation p.buckets q.buckets × IsPermutat
 
 -- so are those of the CRUSH map that parts within the limits state
 crush_moved : (crush : Option CrushParts) (k : Option CrushFacts) → option_map_or crush_fits crush true ≡ true → IsCrushStated crush k → IsCrushMoved crush (option_map crush_parts k)
-unfolding crush_fits
+unfolding crush_fits_in
 crush_moved None None fit is = tt
 crush_moved None (Some k) fit is = absurd (cc)
 crush_moved (Some p) None fit is = absurd is
@@ -204,29 +206,17 @@ crush_moved (Some p) (Some k) fit is =
       parts_moved rule_of rule_part rule_fits rule_back p.rules k.rules rules.1 is.rules.same,
     )
 
--- they are within the limits alike
-crush_limits : (a b : Option CrushParts) → IsCrushMoved a b → option_map_or crush_fits b true ≡ option_map_or crush_fits a true
-unfolding crush_fits
-crush_limits None None moved = refl
-crush_limits None (Some q) moved = absurd moved
-crush_limits (Some p) None moved = absurd moved
-crush_limits (Some p) (Some q) moved = rw (
-  count_moved 1 4096 p.buckets q.buckets moved.0,
-  count_moved 1 256 p.rules q.rules moved.1,
-  list_all-moved bucket_fits p.buckets q.buckets moved.0,
-  list_all-moved rule_fits p.rules q.rules moved.1,
-) refl
-
--- also within those of plain clusters
-crush_plain : (a b : Option CrushParts) → IsCrushMoved a b → crush_is_plain b ≡ crush_is_plain a
-crush_plain None None moved = refl
-crush_plain None (Some q) moved = absurd moved
-crush_plain (Some p) None moved = absurd moved
-crush_plain (Some p) (Some q) moved = rw (
-  count_moved 0 512 p.buckets q.buckets moved.0,
-  count_moved 0 32 p.rules q.rules moved.1,
-  list_all-moved bucket_is_plain p.buckets q.buckets moved.0,
-  list_all-moved (λ (r : RulePart). list_all step_is_plain r.steps) p.rules q.rules moved.1,
+-- they are within any limits alike
+crush_limits : (l : Limits) (a b : Option CrushParts) → IsCrushMoved a b → option_map_or (crush_fits_in l) b true ≡ option_map_or (crush_fits_in l) a true
+unfolding crush_fits_in
+crush_limits l None None moved = refl
+crush_limits l None (Some q) moved = absurd moved
+crush_limits l (Some p) None moved = absurd moved
+crush_limits l (Some p) (Some q) moved = rw (
+  count_moved 1 l.buckets p.buckets q.buckets moved.0,
+  count_moved 1 l.rules p.rules q.rules moved.1,
+  list_all-moved (bucket_fits_in l) p.buckets q.buckets moved.0,
+  list_all-moved (rule_fits_in l) p.rules q.rules moved.1,
 ) refl
 
 -- and have kinds and steps of a profile alike
@@ -266,61 +256,33 @@ record AreMoved (c d : RawChange) : Type 0 where
   explicit : ExceptionsMoved c.explicit d.explicit
   items : ExceptionsMoved c.items d.items
 
--- they are within the limits alike
-limits_moved : (c d : RawChange) → AreMoved c d → change_fits d ≡ change_fits c
-unfolding change_fits exceptions_fit
-limits_moved c d m = rw (
-  m.base,
-  count_moved 0 1048576 c.pools.gone d.pools.gone m.pools.gone,
-  list_all-moved is_pool_id c.pools.gone d.pools.gone m.pools.gone,
-  crush_limits c.crush d.crush m.crush,
-  count_moved 0 1048576 c.pools.come d.pools.come m.pools.come,
-  list_all-moved pool_fits c.pools.come d.pools.come m.pools.come,
-  count_moved 0 1048576 c.pools.grow d.pools.grow m.pools.grow,
-  list_all-moved growth_fits c.pools.grow d.pools.grow m.pools.grow,
-  count_moved 0 1048576 c.osds.down d.osds.down m.osds.down,
-  list_all-moved is_osd_id c.osds.down d.osds.down m.osds.down,
-  count_moved 0 1048576 c.osds.up d.osds.up m.osds.up,
-  list_all-moved is_osd_id c.osds.up d.osds.up m.osds.up,
-  count_moved 0 1048576 c.weights d.weights m.weights,
-  list_all-moved reweight_fits c.weights d.weights m.weights,
-  count_moved 0 1048576 c.explicit.gone d.explicit.gone m.explicit.gone,
-  list_all-moved pg_fits c.explicit.gone d.explicit.gone m.explicit.gone,
-  count_moved 0 1048576 c.items.gone d.items.gone m.items.gone,
-  list_all-moved pg_fits c.items.gone d.items.gone m.items.gone,
-  count_moved 0 1048576 c.explicit.come d.explicit.come m.explicit.come,
-  list_all-moved (exception_fits is_osd_id) c.explicit.come d.explicit.come m.explicit.come,
-  count_moved 0 1048576 c.items.come d.items.come m.items.come,
-  list_all-moved (exception_fits pair_fits) c.items.come d.items.come m.items.come,
-) refl
+-- a list is within any limits like the same in another order
+entries_moved : {X : Type 0} (fits : X → Bool) (l : Limits) (xs ys : List X) → IsPermutation xs ys → entries_fit_in fits l ys ≡ entries_fit_in fits l xs
+unfolding entries_fit_in
+entries_moved fits l xs ys moved = rw (count_moved 0 l.entries xs ys moved, list_all-moved fits xs ys moved) refl
 
--- also within those of plain clusters
-plain_moved : (c d : RawChange) → AreMoved c d → change_is_plain d ≡ change_is_plain c
-unfolding change_is_plain
-plain_moved c d m = rw (
-  count_moved 0 131072 c.pools.gone d.pools.gone m.pools.gone,
-  crush_plain c.crush d.crush m.crush,
-  count_moved 0 131072 c.pools.come d.pools.come m.pools.come,
-  list_all-moved pool_is_plain c.pools.come d.pools.come m.pools.come,
-  count_moved 0 131072 c.pools.grow d.pools.grow m.pools.grow,
-  list_all-moved growth_is_plain c.pools.grow d.pools.grow m.pools.grow,
-  count_moved 0 131072 c.osds.down d.osds.down m.osds.down,
-  list_all-moved osd_is_plain c.osds.down d.osds.down m.osds.down,
-  count_moved 0 131072 c.osds.up d.osds.up m.osds.up,
-  list_all-moved osd_is_plain c.osds.up d.osds.up m.osds.up,
-  count_moved 0 131072 c.weights d.weights m.weights,
-  list_all-moved (λ (w : ReweightPart). osd_is_plain w.osd) c.weights d.weights m.weights,
-  count_moved 0 131072 c.explicit.gone d.explicit.gone m.explicit.gone,
-  count_moved 0 131072 c.items.gone d.items.gone m.items.gone,
-  count_moved 0 131072 c.explicit.come d.explicit.come m.explicit.come,
-  list_all-moved (exception_is_plain osd_is_plain) c.explicit.come d.explicit.come m.explicit.come,
-  count_moved 0 131072 c.items.come d.items.come m.items.come,
-  list_all-moved (exception_is_plain pair_is_plain) c.items.come d.items.come m.items.come,
+-- they are within any limits alike
+limits_moved : (l : Limits) (c d : RawChange) → AreMoved c d → change_fits_in l d ≡ change_fits_in l c
+unfolding change_fits_in
+limits_moved l c d m = rw (
+  m.base,
+  count_moved 0 l.entries c.pools.gone d.pools.gone m.pools.gone,
+  list_all-moved is_pool_id c.pools.gone d.pools.gone m.pools.gone,
+  crush_limits l c.crush d.crush m.crush,
+  entries_moved (pool_fits_in l) l c.pools.come d.pools.come m.pools.come,
+  entries_moved (growth_fits_in l) l c.pools.grow d.pools.grow m.pools.grow,
+  entries_moved (is_osd_id_in l) l c.osds.down d.osds.down m.osds.down,
+  entries_moved (is_osd_id_in l) l c.osds.up d.osds.up m.osds.up,
+  entries_moved (reweight_fits_in l) l c.weights d.weights m.weights,
+  entries_moved pg_fits l c.explicit.gone d.explicit.gone m.explicit.gone,
+  entries_moved pg_fits l c.items.gone d.items.gone m.items.gone,
+  entries_moved (exception_fits_in (is_osd_id_in l) l) l c.explicit.come d.explicit.come m.explicit.come,
+  entries_moved (exception_fits_in (pair_fits_in l) l) l c.items.come d.items.come m.items.come,
 ) refl
 
 -- the parts of the change that parts within the limits state are those parts
 parts_stated : (profile : Profile) (r : RawChange) (base : ℕ) (c : ChangeParts) → change_fits r ≡ true → IsChangeStated profile r base c → AreMoved r (change_parts base c)
-unfolding exceptions_fit
+unfolding entries_fit_in
 parts_stated profile r base c limits is =
     let fits = change_fits_each r limits in
     record {
@@ -349,13 +311,12 @@ parts_stated profile r base c limits is =
 -- ---- the text
 
 -- what has no fault is within the limits
-faultless_fits : (profile : Profile) (r : RawChange) → change_fault_in profile r ≡ None → ((is_stock profile || change_is_plain r) ≡ true) × (change_fits r ≡ true)
-faultless_fits profile r h = by_tests (is_stock profile || change_is_plain r) (change_fits r) (option_or (new_crush_fault r.crush) (refused_unless (are_even r.pools) BadPool)) h
+faultless_fits : (profile : Profile) (r : RawChange) → change_fault_in profile r ≡ None → change_fits_in (limits_of profile) r ≡ true
+faultless_fits profile r h = by_tests (change_fits_in (limits_of profile) r) (option_or (new_crush_fault r.crush) (refused_unless (are_even r.pools) BadPool)) h
   where
-    by_tests : (plain fits : Bool) (other : Option Refusal) → (if plain then (if not fits then Some BadLimit else other) else Some BadLimit) ≡ None → (plain ≡ true) × (fits ≡ true)
-    by_tests true true other h = (refl, refl)
-    by_tests true false other h = absurd (cc)
-    by_tests false fits other h = absurd (cc)
+    by_tests : (fits : Bool) (other : Option Refusal) → (if not fits then Some BadLimit else other) ≡ None → fits ≡ true
+    by_tests true other h = refl
+    by_tests false other h = absurd (cc)
 
 -- what a profile allows of a change has kinds of it
 kinds_allowed : (profile : Profile) (x r : RawChange) → kept_or (change_allowed profile x) ≡ Ok r → brings_kinds profile r.crush ≡ true
@@ -376,25 +337,19 @@ kinds_of_value profile None r h = absurd (cc)
 kinds_of_value profile (Some d) r h = kinds_of_part profile (stated_change d) r h
 
 -- the limits do not hang on the base
-fits_at_zero : (base : ℕ) (c : ChangeParts) → change_fits (change_parts base c) ≡ true → change_fits (change_parts 0 c) ≡ true
-unfolding change_fits
-fits_at_zero base c fits = grind (arith, fits, natural_fits 0 18446744073709551615 0 (omega arith) (omega arith))
-
--- nor do those of plain clusters
-plain_at_zero : (base : ℕ) (c : ChangeParts) → change_is_plain (change_parts 0 c) ≡ change_is_plain (change_parts base c)
-unfolding change_is_plain
-plain_at_zero base c = refl
+fits_at_zero : (l : Limits) (base : ℕ) (c : ChangeParts) → change_fits_in l (change_parts base c) ≡ true → change_fits_in l (change_parts 0 c) ≡ true
+unfolding change_fits_in
+fits_at_zero l base c fits = grind (arith, fits, natural_fits 0 18446744073709551615 0 (omega arith) (omega arith))
 
 -- a change that is stated without a fault is one that a text may state
 stated_fits : (profile : Profile) (r : RawChange) (base : ℕ) (c : ChangeParts) → change_fault_in profile r ≡ None → brings_kinds profile r.crush ≡ true → IsChangeStated profile r base c → FitsProfile profile c
 unfolding fits_text
 stated_fits profile r base c faultless kinds is =
     let within = faultless_fits profile r faultless in
-    let moved = parts_stated profile r base c within.1 is in
+    let moved = parts_stated profile r base c (change_fits_all profile r within) is in
     let own_kinds = crush_kinds profile r.crush (option_map crush_parts c.crush) moved.crush ∙ kinds in
-    let own_plain = ap (λ b. is_stock profile || b) (plain_at_zero base c ∙ plain_moved r (change_parts base c) moved) ∙ within.0 in
-    let own_limits = fits_at_zero base c (limits_moved r (change_parts base c) moved ∙ within.1) in
-    record { profile_is = is.ordered.profile; fits = rw (own_kinds, own_plain, own_limits) refl }
+    let own_limits = fits_at_zero (limits_of profile) base c (limits_moved (limits_of profile) r (change_parts base c) moved ∙ within) in
+    record { profile_is = is.ordered.profile; fits = rw (own_kinds, own_limits) refl }
 
 -- so is one that a text states
 by_result : (profile : Profile) (bytes : List ℕ) (answer : ℕ × ChangeParts) (r : Result RawChange Refusal) → stated_by (change_in profile) bytes ≡ r

@@ -2,7 +2,7 @@
 use Rattle.std.proofs.Common.{◌≡◌, ℤ, pos, Bool, true, IsTrue, All, List, slice_index_or, arith}
 use Rattle.std.specs.List.{list_all}
 use Rattle.std.specs.Option.{option_map_or}
-use Rattle.mapparts.specs.Parts.{crush_fits, growth_fits, is_between, is_osd_id, pool_fits, pg_fits, pair_fits, exceptions_fit}
+use Rattle.mapparts.specs.Parts.{crush_fits, growth_fits, is_between, is_osd_id, pool_fits, pg_fits, pair_fits, exceptions_fit, is_osd_id_in, entries_fit_in}
 use Rattle.mapparts.proofs.Within.{word_between}
 use Rattle.mapparts.specs.declared.change.PoolChanges.{PoolChanges}
 use Rattle.mapparts.specs.declared.change.OsdChanges.{OsdChanges}
@@ -12,7 +12,7 @@ use Rattle.mapparts.specs.declared.parts.PoolPart.{PoolPart}
 use Rattle.mapparts.specs.declared.parts.GrowPart.{GrowPart}
 use Rattle.mapparts.specs.declared.parts.ExceptionPart.{ExceptionPart}
 use Rattle.mapparts.specs.declared.pg_parts.PgParts.{PgParts}
-use Rattle.mapparts.specs.Changes.{is_pool_id, reweight_fits, entries_fit, pool_changes_fit, osd_changes_fit, exception_changes_fit, change_fits}
+use Rattle.mapparts.specs.Changes.{is_pool_id, reweight_fits, entries_fit, pool_changes_fit, osd_changes_fit, exception_changes_fit, change_fits, change_fits_in}
 use Rattle.std.proofs.lemmas.Bool.{and_parts}
 use Rattle.mapjson.proofs.Tests.{all_from_test}
 
@@ -54,19 +54,22 @@ pub record ChangeFits (c : RawChange) : Type 0 where
 
 -- each list of pools within the limits is
 pub pools_fit_each : (c : PoolChanges ℤ PoolPart GrowPart) → pool_changes_fit c ≡ true → PoolsFit c
+unfolding entries_fit_in
 pools_fit_each c h = record { gone = grind arith; come = grind arith; grow = grind arith }
 
 -- so is each of OSDs
 pub osds_fit_each : (c : OsdChanges ℤ) → osd_changes_fit c ≡ true → OsdsFit c
+unfolding entries_fit_in
 osds_fit_each c h = record { down = grind arith; up = grind arith }
 
 -- and each of exceptions
 pub exceptions_fit_each : {P : Type 0} (fits : P → Bool) (c : ExceptionChanges PgParts (ExceptionPart P)) → exception_changes_fit fits c ≡ true → ExceptionsFit fits c
+unfolding entries_fit_in
 exceptions_fit_each fits c h = record { gone = grind arith; come = grind arith }
 
 -- a change within the limits has each of its families within them
 pub families_fit : (c : RawChange) → change_fits c ≡ true → FamiliesFit c
-unfolding change_fits
+unfolding change_fits_in
 families_fit c h =
     let items = and_parts _ (exception_changes_fit pair_fits c.items) h in
     let explicit = and_parts _ (exception_changes_fit is_osd_id c.explicit) items.0 in
@@ -86,6 +89,7 @@ families_fit c h =
 
 -- so it has each of its lists
 pub change_fits_each : (c : RawChange) → change_fits c ≡ true → ChangeFits c
+unfolding entries_fit_in
 change_fits_each c h =
     let fits = families_fit c h in
     record {
@@ -110,7 +114,7 @@ pool_id_is_word z h = word_between 1 65535 z (omega arith) h
 
 -- the id of an OSD is a word
 osd_is_word : (z : ℤ) → is_osd_id z ≡ true → IsTrue (is_between (pos 0) (pos 4294967295) z)
-unfolding is_osd_id
+unfolding is_osd_id_in
 osd_is_word z h = word_between 0 4095 z (omega arith) h
 
 -- ids of pools are words

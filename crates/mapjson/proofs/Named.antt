@@ -12,7 +12,7 @@ use Rattle.mapparts.specs.declared.pg_parts.PgParts.{PgParts}
 use Rattle.maptypes.specs.Exceptions.{has_group, is_exception}
 use Rattle.keylist.specs.Keys.{entry_at}
 use Rattle.maptypes.specs.Pools.{PoolFacts}
-use Rattle.mapparts.specs.Parts.{pg_fits, pool_fits, exception_fits}
+use Rattle.mapparts.specs.Parts.{pg_fits, pool_fits, exception_fits, exception_fits_in}
 use Rattle.maptypes.specs.Values.{pool_of, exception_of}
 use Rattle.osdmap.specs.PartsOf.{pg_part}
 use Rattle.mapparts.specs.PgText.{parts_in}
@@ -67,7 +67,7 @@ parts_named None number fit small = absurd (grind (arith, fit))
 pub exceptions_named : {E P : Type 0} (names : E → List ℕ) (sound : List E → Bool) (exists : ℕ → Bool) (entry_of : P → E) (fits : P → Bool) (pools : List PoolPart) → list_all pool_fits pools ≡ true
     → (es : List (ExceptionPart P)) → list_all (exception_fits fits) es ≡ true
     → list_all (is_exception names sound (map pool_of pools) exists) (map (exception_of entry_of) es) ≡ true → AreNamed es
-unfolding exception_fits
+unfolding exception_fits_in
 exceptions_named names sound exists entry_of fits pools small [] fit there k d below = absurd (omega arith)
 exceptions_named names sound exists entry_of fits pools small (e ∷ es) fit there zero d below =
     let first = and_parts _ _ (and_parts _ _ (and_parts (is_exception names sound (map pool_of pools) exists (exception_of entry_of e)) _ there).0).0 in

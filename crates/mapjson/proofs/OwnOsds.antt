@@ -14,7 +14,7 @@ use Rattle.maptypes.specs.declared.osd.OsdState.{OsdState}
 use Rattle.mapparts.specs.declared.parts.OsdPart.{OsdPart}
 use Rattle.keylist.specs.Keys.{is_distinct}
 use Rattle.osdmap.specs.Maps.{ClusterMap, is_presence, HoldsTogether}
-use Rattle.mapparts.specs.Parts.{osd_fits}
+use Rattle.mapparts.specs.Parts.{osd_fits, osd_fits_in}
 use Rattle.osdmap.specs.Stated.{osd_ok, listed_osd, presence_in, weight_in}
 use Rattle.osdmap.specs.PartsOf.{osd_part, is_notable, part_listed, osd_parts}
 use Rattle.mapjson.proofs.OwnValues.{natural_fits}
@@ -150,7 +150,7 @@ module _ (m : ClusterMap) (holds : HoldsTogether m) where
   own_ok = all_listed (part_listed m) (own_number m) (osd_ok (length m.presences)) one_ok (range_with_len 0 (length m.presences))
 
   one_fits : (n : ℕ) (o : OsdPart) → part_listed m n ≡ Some o → osd_fits o ≡ true
-  unfolding osd_fits
+  unfolding osd_fits_in
   one_fits n o is =
       let l = is_listed_of m n o is in
       let inside = slice_get_within m.presences n l.presence l.there in

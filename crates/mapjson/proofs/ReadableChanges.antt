@@ -6,14 +6,14 @@ use Rattle.std.proofs.lemmas.Bool.{and_parts}
 use Rattle.mapparts.specs.declared.parts.GrowPart.{GrowPart}
 use Rattle.mapparts.specs.declared.parts.CrushParts.{CrushParts}
 use Rattle.mapparts.specs.declared.pg_parts.PgParts.{PgParts}
-use Rattle.mapparts.specs.Parts.{is_osd_id, is_between, pair_fits, bucket_fits, rule_fits, pool_fits, growth_fits, crush_fits}
+use Rattle.mapparts.specs.Parts.{is_osd_id, is_between, pair_fits, bucket_fits, rule_fits, pool_fits, growth_fits, crush_fits, crush_fits_in}
 use Rattle.mapparts.proofs.Within.{growth_fits_each}
 use Rattle.maptypes.specs.Values.{pg_of}
 use Rattle.mapparts.specs.declared.change.RawChange.{RawChange}
 use Rattle.mapparts.specs.declared.change.ReweightPart.{ReweightPart}
 use Rattle.keylist.proofs.Each.{all_so}
 use Rattle.mapjson.specs.Written.{number_data, members, bucket_data, rule_data, pool_data, group_data, pair_data}
-use Rattle.mapparts.specs.Changes.{is_pool_id, reweight_fits, change_fits}
+use Rattle.mapparts.specs.Changes.{is_pool_id, reweight_fits, change_fits, reweight_fits_in}
 use Rattle.mapjson.specs.WrittenChanges.{reweight_data, growth_data, crush_data, last_members, change_data}
 use Rattle.mapjson.proofs.Readable.{IsReadable, MembersReadable}
 use Rattle.mapjson.proofs.ReadableMaps.{number_between, entries_within, bucket_readable, rule_readable, pool_readable, group_ascii, osd_id_readable, pair_readable, exceptions_readable}
@@ -27,7 +27,7 @@ pool_id_readable z h = number_between (pos 1) (pos 65535) z tt (omega arith) h
 
 -- a reweight within its limits is readable
 reweight_readable : (w : ReweightPart) → reweight_fits w ≡ true → IsReadable (reweight_data w)
-unfolding reweight_fits
+unfolding reweight_fits_in
 reweight_readable w h =
     let each = and_parts (is_osd_id w.osd) (is_between (pos 0) (pos 4294967295) w.weight) h in
     (osd_id_readable w.osd each.0, (number_between (pos 0) (pos 4294967295) w.weight tt (omega arith) each.1, tt))
@@ -49,7 +49,7 @@ group_readable g h = group_ascii (pg_of g)
 
 -- a CRUSH map within its limits is readable
 crush_readable : (k : CrushParts) → crush_fits k ≡ true → IsReadable (crush_data k)
-unfolding crush_fits crush_data
+unfolding crush_fits_in crush_data
 crush_readable k h =
     let rules = and_parts _ (list_all rule_fits k.rules) h in
     let buckets = and_parts _ (list_all bucket_fits k.buckets) rules.0 in (

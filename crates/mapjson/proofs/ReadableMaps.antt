@@ -31,7 +31,7 @@ use Rattle.maptypes.specs.declared.pg.Pg.{Pg}
 use Rattle.buckets.specs.Buckets.{is_bucket_id}
 use Rattle.maptypes.specs.GroupText.{group_text}
 use Rattle.maptypes.specs.Values.{pg_of}
-use Rattle.mapparts.specs.Parts.{is_osd_id, pair_fits, exception_fits, exceptions_fit, is_between, has_between, item_fits, bucket_fits, step_fits, rule_fits, pool_fits, osd_fits, head_fits, lists_fit, has_few_groups, parts_fit}
+use Rattle.mapparts.specs.Parts.{is_osd_id, pair_fits, exception_fits, exceptions_fit, is_between, has_between, item_fits, bucket_fits, step_fits, rule_fits, pool_fits, osd_fits, head_fits, lists_fit, has_few_groups, parts_fit, bucket_fits_in, entries_fit_in, exception_fits_in, head_fits_in, is_osd_id_in, item_fits_in, osd_fits_in, pair_fits_in, parts_fit_in, pool_fits_in, rule_fits_in, step_fits_in}
 use Rattle.mapjson.specs.Written.{number_data, kind_word, item_data, bucket_data, use_word, choose_word, step_data, rule_data, pool_data, osd_data, pair_data, exception_data, map_data}
 use Rattle.mapjson.proofs.Readable.{IsReadable, ItemsReadable}
 
@@ -75,7 +75,7 @@ kind_ascii Straw2 = refl
 
 -- an item within its limits is readable
 item_readable : (i : ItemPart) → item_fits i ≡ true → IsReadable (item_data i)
-unfolding item_fits
+unfolding item_fits_in
 item_readable i h =
     let p = and_parts (is_between (negsuc 65535) (pos 4095) i.id) _ h in
     (number_between (negsuc 65535) (pos 4095) i.id (omega arith) (omega arith) p.0, (number_between (pos 1) (pos 4294967295) i.weight tt (omega arith) p.1, tt))
@@ -88,10 +88,11 @@ id_readable (negsuc n) h = number_between (negsuc 65535) (negsuc 0) (negsuc n) (
 
 -- a bucket within its limits is readable
 pub bucket_readable : (b : BucketPart) → bucket_fits b ≡ true → IsReadable (bucket_data b)
-unfolding bucket_fits bucket_data
+unfolding bucket_fits_in bucket_data
 bucket_readable b h =
     let items = and_parts _ (list_all item_fits b.items) h in
-    let many = and_parts _ (has_between 1 (most_items b.kind) b.items) items.0 in
+    let few = and_parts _ (has_between 0 4096 b.items) items.0 in
+    let many = and_parts _ (has_between 1 (most_items b.kind) b.items) few.0 in
     let head = and_parts (is_bucket_id b.id) (is_between (pos 1) (pos 15) b.level) many.0 in (
       (
         refl,
@@ -121,7 +122,7 @@ choose_ascii Indep true = refl
 
 -- a step within its limits is readable
 step_readable : (s : StepPart) → step_fits s ≡ true → IsReadable (step_data s)
-unfolding step_fits step_data
+unfolding step_fits_in step_data
 step_readable (SetChooseTries tries) h = (refl, (number_between (pos 1) (pos 200) tries tt (omega arith) h, tt))
 step_readable (SetChooseleafTries tries) h = (refl, (number_between (pos 1) (pos 200) tries tt (omega arith) h, tt))
 step_readable (SetChooseleafVaryR vary) h = (refl, (number_between (pos 0) (pos 4) vary tt (omega arith) h, tt))
@@ -136,7 +137,7 @@ step_readable Emit h = (refl, tt)
 
 -- a rule within its limits is readable
 pub rule_readable : (r : RulePart) → rule_fits r ≡ true → IsReadable (rule_data r)
-unfolding rule_fits rule_data
+unfolding rule_fits_in rule_data
 rule_readable r h =
     let steps = and_parts _ (list_all step_fits r.steps) h in
     let id = and_parts (is_between (pos 0) (pos 255) r.id) (has_between 1 16 r.steps) steps.0 in (
@@ -152,24 +153,24 @@ rule_readable r h =
 
 -- a pool within its limits is readable
 pub pool_readable : (p : PoolPart) → pool_fits p ≡ true → IsReadable (pool_data p)
-unfolding pool_fits pool_data
+unfolding pool_fits_in pool_data
 pool_readable p h =
     let size = and_parts _ (is_between (pos 1) (pos 20) p.size) h in
     let rule = and_parts _ (is_between (pos 0) (pos 255) p.rule) size.0 in
-    let pgp_num = and_parts _ (is_between (pos 1) (pos 65536) p.pgp_num) rule.0 in
-    let id = and_parts (is_between (pos 1) (pos 65535) p.id) (is_between (pos 1) (pos 65536) p.pg_num) pgp_num.0 in (
+    let groups = and_parts (is_between (pos 1) (pos 65535) p.id) _ rule.0 in
+    let numbers = and_parts (is_between (pos 1) (pos 65536) p.pg_num) (is_between (pos 1) (pos 65536) p.pgp_num) groups.1 in (
       (
         refl,
-        number_between (pos 1) (pos 65535) p.id tt (omega arith) id.0,
+        number_between (pos 1) (pos 65535) p.id tt (omega arith) groups.0,
         (
           refl,
           use_ascii p.kind,
           (
             refl,
-            number_between (pos 1) (pos 65536) p.pg_num tt (omega arith) id.1,
+            number_between (pos 1) (pos 65536) p.pg_num tt (omega arith) numbers.0,
             (
               refl,
-              number_between (pos 1) (pos 65536) p.pgp_num tt (omega arith) pgp_num.1,
+              number_between (pos 1) (pos 65536) p.pgp_num tt (omega arith) numbers.1,
               (
                 refl,
                 number_between (pos 0) (pos 255) p.rule tt (omega arith) rule.1,
@@ -184,7 +185,7 @@ pool_readable p h =
 
 -- an OSD within its limits is readable
 osd_readable : (o : OsdPart) → osd_fits o ≡ true → IsReadable (osd_data o)
-unfolding osd_fits osd_data
+unfolding osd_fits_in osd_data
 osd_readable o h =
     let id = and_parts (is_between (pos 0) (pos 4095) o.id) _ h in (
       (
@@ -231,22 +232,22 @@ group_ascii g =
 
 -- the id of an OSD is readable
 pub osd_id_readable : (z : ℤ) → is_osd_id z ≡ true → IsReadable (number_data z)
-unfolding is_osd_id
+unfolding is_osd_id_in
 osd_id_readable z h = number_between (pos 0) (pos 4095) z tt (omega arith) h
 
 -- a pair within its limits is readable
 pub pair_readable : (p : PairPart) → pair_fits p ≡ true → IsReadable (pair_data p)
-unfolding pair_fits
+unfolding pair_fits_in
 pair_readable p h = let each = and_parts (is_osd_id p.from) (is_osd_id p.to) h in (osd_id_readable p.from each.0, (osd_id_readable p.to each.1, tt))
 
 -- an exception within its limits is readable where its entries are
 exception_readable : {X : Type 0} (fits : X → Bool) (entry : X → Data) → ((x : X) → fits x ≡ true → IsReadable (entry x)) → (e : ExceptionPart X) → exception_fits fits e ≡ true → IsReadable (exception_data entry e)
-unfolding exception_fits exception_data
+unfolding exception_fits_in exception_data
 exception_readable fits entry each e h = (group_ascii (pg_of e.pg), (entries_within fits entry each e.entries (and_parts _ (list_all fits e.entries) h).1, tt))
 
 -- exceptions within their limits are readable where their entries are
 pub exceptions_readable : {X : Type 0} (fits : X → Bool) (entry : X → Data) → ((x : X) → fits x ≡ true → IsReadable (entry x)) → (es : List (ExceptionPart X)) → exceptions_fit fits es ≡ true → ItemsReadable (items_of (map (exception_data entry) es))
-unfolding exceptions_fit
+unfolding entries_fit_in
 exceptions_readable fits entry each es h =
     entries_within (exception_fits fits) (exception_data entry) (exception_readable fits entry each) es (and_parts _ (list_all (exception_fits fits) es) h).1
 
@@ -254,7 +255,7 @@ exceptions_readable fits entry each es h =
 
 -- the parts of a map within the limits are readable
 pub map_readable : (p : MapParts) → parts_fit p ≡ true → IsReadable (map_data p)
-unfolding parts_fit head_fits map_data
+unfolding parts_fit_in head_fits_in map_data
 map_readable p h =
     let items = and_parts _ (exceptions_fit pair_fits p.pg_upmap_items) h in
     let explicit = and_parts _ (exceptions_fit is_osd_id p.pg_upmap) items.0 in

@@ -1,5 +1,5 @@
 -- The change that a JSON text (RFC 8259) states.
-use Rattle.std.specs.Prelude.{◌≡◌, ℕ, ℤ, nat_abs, ◌||◌, not, List, map, Option, Some, None, option_and_then, Result, Ok, Err, IfOk, if◌then◌else◌}
+use Rattle.std.specs.Prelude.{◌≡◌, ℕ, ℤ, nat_abs, not, List, map, Option, Some, None, option_and_then, Result, Ok, Err, IfOk, if◌then◌else◌}
 use Rattle.std.specs.Option.{option_or, IsSomeAnd}
 use Rattle.buckets.specs.Limits.{max_devices}
 use Rattle.refusal.specs.Outcomes.{refused_unless}
@@ -9,7 +9,7 @@ use Rattle.mapparts.specs.declared.parts.PoolPart.{PoolPart}
 use Rattle.mapparts.specs.declared.parts.GrowPart.{GrowPart}
 use Rattle.mapparts.specs.declared.parts.ExceptionPart.{ExceptionPart}
 use Rattle.mapparts.specs.declared.pg_parts.PgParts.{PgParts}
-use Rattle.mapparts.specs.Changes.{change_fits, change_is_plain, are_even}
+use Rattle.mapparts.specs.Changes.{change_fits_in, are_even}
 use Rattle.maptypes.specs.Values.{growth_of as within_growth, pool_of, pg_of, pair_of, exception_of}
 use Rattle.maptypes.specs.declared.change.ChangeParts.{ChangeParts}
 use Rattle.maptypes.specs.declared.change.Reweight.{Reweight}
@@ -20,7 +20,7 @@ use Rattle.refusal.specs.declared.refused.Refusal.TheVariants.{BadLimit, BadPool
 use Rattle.maptypes.specs.Growth.{Growth}
 use Rattle.maptypes.specs.Ordered.{IsOrdered}
 use Rattle.maptypes.specs.Pools.{PoolFacts}
-use Rattle.mapparts.specs.Profiles.{is_stock}
+use Rattle.mapparts.specs.Profiles.{limits_of}
 use Rattle.mapparts.specs.declared.change.PoolChanges.{PoolChanges}
 use Rattle.mapparts.specs.declared.change.OsdChanges.{OsdChanges}
 use Rattle.mapparts.specs.declared.change.ExceptionChanges.{ExceptionChanges}
@@ -68,17 +68,12 @@ abbrev pub IsCrushStated : Option CrushParts → Option CrushFacts → Type 0
 IsCrushStated None k = k ≡ None
 IsCrushStated (Some p) k = IsSomeAnd k (IsCrushOf p.buckets p.rules)
 
--- a number or a length is outside its limits, else the CRUSH map is none, else a pool has more groups for placement
--- than groups
-abbrev pub raw_change_fault : RawChange → Option Refusal
-raw_change_fault c =
-    if not (change_fits c) then Some BadLimit
-    else option_or (new_crush_fault c.crush) (refused_unless (are_even c.pools) BadPool)
-
--- the same by the limits of a profile
+-- a number or a length is outside the limits of a profile, else the CRUSH map is none, else a pool has more groups for
+-- placement than groups
 abbrev pub change_fault_in : Profile → RawChange → Option Refusal
 change_fault_in profile c =
-    if is_stock profile || change_is_plain c then raw_change_fault c else Some BadLimit
+    if not (change_fits_in (limits_of profile) c) then Some BadLimit
+    else option_or (new_crush_fault c.crush) (refused_unless (are_even c.pools) BadPool)
 
 -- the base and the parts are those of a change by a profile
 pub record IsChangeOf (profile : Profile) (c : RawChange) (base : ℕ) (parts : ChangeParts) : Type 0 where

@@ -1,5 +1,5 @@
 -- What is written of a change: its parts as a JSON value (RFC 8259), with each list, in compact text.
-use Rattle.std.specs.Prelude.{ℕ, ◌&&◌, ◌||◌, Bool, List, [], ◌∷◌, ◌++◌, codes, Option, Some, None, option_map}
+use Rattle.std.specs.Prelude.{ℕ, ◌&&◌, Bool, List, [], ◌∷◌, ◌++◌, codes, Option, Some, None, option_map}
 use Rattle.std.specs.List.{All}
 use Rattle.serde_json.specs.Data.{Data, Members, put}
 use Rattle.serde_json.specs.Written.{compact_text}
@@ -12,9 +12,9 @@ use Rattle.maptypes.specs.declared.change.ChangeParts.{ChangeParts}
 use Rattle.mapparts.specs.declared.change.RawChange.{RawChange}
 use Rattle.mapparts.specs.declared.change.ReweightPart.{ReweightPart}
 use Rattle.mapparts.specs.declared.profile.Profile.{Profile}
-use Rattle.mapparts.specs.Profiles.{is_stock}
+use Rattle.mapparts.specs.Profiles.{limits_of}
 use Rattle.partjson.specs.Profiles.{brings_kinds}
-use Rattle.mapparts.specs.Changes.{change_fits, change_is_plain}
+use Rattle.mapparts.specs.Changes.{change_fits_in}
 use Rattle.mapjson.specs.PartsOfChange.{crush_parts, change_parts}
 use Rattle.mapjson.specs.Written.{number_data, list_data, object_of, bucket_data, rule_data, pool_data, IsNamed, AreNamed, group_data, pair_data, exception_data}
 
@@ -83,5 +83,4 @@ written_change base c = compact_text (change_data (change_parts base c))
 -- that profile, which has the kinds of all new buckets
 unfoldable pub fits_text : Profile → ChangeParts → Bool
 fits_text profile c =
-    brings_kinds profile (option_map crush_parts c.crush)
-    && (is_stock profile || change_is_plain (change_parts 0 c)) && change_fits (change_parts 0 c)
+    brings_kinds profile (option_map crush_parts c.crush) && change_fits_in (limits_of profile) (change_parts 0 c)

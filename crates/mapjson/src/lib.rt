@@ -31,7 +31,7 @@ mod written;
 use crate::change::change_within;
 use crate::loads::{list_loads, parse_loads};
 use crate::written::{WriteJson, write_parts};
-use json::Writer;
+use json::{Scratch, Writer};
 use mapparts::{MapParts, Profile};
 use maptypes::Change;
 use osdmap::OsdMap;
@@ -75,7 +75,7 @@ fn map_of(alloc: Global, parts: MapParts, profile: Profile) -> Result<OsdMap, Re
 ///   OSDs of 0 to 4,095, reweights of 0 to 4,294,967,295, groups' numbers of at most 32 bits, at most 20 OSDs or pairs
 ///   of a group, lists of at most 1,048,576 entries, of a new pool what [`osdmap::Pool`] has, of a growth what
 ///   [`osdmap::Grow`] has, of a new CRUSH map what a map's buckets and rules have, and under `Plain` also the limits of
-///   plain clusters ([`mapparts::plain`], lists of at most 131,072 entries among them).
+///   plain clusters ([`mapparts::limits`], lists of at most 131,072 entries among them).
 /// - `BadForest` (13): the new buckets are no well-formed forest over 4,096 devices.
 /// - `BadRule` (14): a new rule is outside the grammar, takes a bucket that is not among them, or has the id of
 ///   another.
@@ -85,21 +85,43 @@ fn map_of(alloc: Global, parts: MapParts, profile: Profile) -> Result<OsdMap, Re
 pub fn read_change(alloc: Global, bytes: &[u8], profile: Profile) -> Result<(u64, Change), Refusal>
     ensures { Makes result (change_text_fault profile bytes.now) (StatesChange profile bytes.now) }
 {
-    let stated = read_change_parts(alloc, bytes, profile)?;
+    read_change_with(alloc, &mut Scratch::new(alloc), bytes, profile)
+}
+
+/// The base and the change that a text states, read with a scratch that is kept from one text to the next: so a change
+/// of a few words takes no room for its tokens. It keeps room for the longest text that it was lent to.
+///
+/// # Errors
+///
+/// Those of [`read_change`].
+pub fn read_change_with(
+    alloc: Global,
+    scratch: &mut Scratch,
+    bytes: &[u8],
+    profile: Profile,
+) -> Result<(u64, Change), Refusal>
+    ensures { Makes result (change_text_fault profile bytes.now) (StatesChange profile bytes.now) }
+{
+    let stated = read_change_parts(alloc, scratch, bytes, profile)?;
     let (base, parts) = change_within(alloc, &stated, profile)?;
     let change = Change::new(parts)?;
     Ok((base, change))
 }
 
-/// The change that a text states without a base.
+/// The change that a text states without a base, read with a scratch as by [`read_change_with`].
 ///
 /// # Errors
 ///
 /// Those of [`read_change`], but that the base must not be there: a text that has one is refused by `BadField` (11).
-pub fn read_unbased(alloc: Global, bytes: &[u8], profile: Profile) -> Result<Change, Refusal>
+pub fn read_unbased_with(
+    alloc: Global,
+    scratch: &mut Scratch,
+    bytes: &[u8],
+    profile: Profile,
+) -> Result<Change, Refusal>
     ensures { Makes result (unbased_text_fault profile bytes.now) (StatesUnbased profile bytes.now) }
 {
-    let stated = read_unbased_parts(alloc, bytes, profile)?;
+    let stated = read_unbased_parts(alloc, scratch, bytes, profile)?;
     let (_, parts) = change_within(alloc, &stated, profile)?;
     Ok(Change::new(parts)?)
 }

@@ -1,3 +1,4 @@
 pub mod Within
+pub mod Wider
 mod DigitsLeft
 mod PgTexts

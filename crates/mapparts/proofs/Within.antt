@@ -7,7 +7,7 @@ use Rattle.mapparts.specs.declared.parts.PoolPart.{PoolPart}
 use Rattle.mapparts.specs.declared.parts.PairPart.{PairPart}
 use Rattle.mapparts.specs.declared.parts.ExceptionPart.{ExceptionPart}
 use Rattle.mapparts.specs.declared.parts.GrowPart.{GrowPart}
-use Rattle.mapparts.specs.Parts.{is_between, has_between, is_osd_id, pair_fits, exception_fits, exceptions_fit, pool_fits, growth_fits}
+use Rattle.mapparts.specs.Parts.{is_between, has_between, is_osd_id_in, pair_fits_in, exception_fits_in, entries_fit_in, pool_fits_in, growth_fits_in, is_osd_id, pair_fits, exception_fits, exceptions_fit, pool_fits, growth_fits}
 
 -- a number between two naturals is a natural between them
 pub record IsNatural (low high : ℕ) (z : ℤ) : Type 0 where
@@ -37,7 +37,7 @@ pub record PoolFits (p : PoolPart) : Type 0 where
 
 -- each number of a pool that fits is within its limits
 pub pool_fits_each : (p : PoolPart) → pool_fits p ≡ true → PoolFits p
-unfolding pool_fits
+unfolding pool_fits_in
 pool_fits_each p h = record {
   id = grind arith;
   pg_num = grind arith;
@@ -54,35 +54,35 @@ pub record GrowthFits (g : GrowPart) : Type 0 where
 
 -- so is each of a growth
 pub growth_fits_each : (g : GrowPart) → growth_fits g ≡ true → GrowthFits g
-unfolding growth_fits
+unfolding growth_fits_in
 growth_fits_each g h = record { pool = grind arith; pg_num = grind arith; pgp_num = grind arith }
 
 -- an OSD's id is a word
 pub osd_id_word : (z : ℤ) → is_osd_id z ≡ true → IsTrue (is_between (pos 0) (pos 4294967295) z)
-unfolding is_osd_id
+unfolding is_osd_id_in
 osd_id_word z h = word_between 0 4095 z (omega arith) h
 
 -- both sides of a pair are OSDs' ids
 pub pair_from : (p : PairPart) → pair_fits p ≡ true → is_osd_id p.from ≡ true
-unfolding pair_fits
+unfolding pair_fits_in is_osd_id_in
 pair_from p h = grind arith
 
 -- the second OSD of a pair that fits may be one
 pub pair_to : (p : PairPart) → pair_fits p ≡ true → is_osd_id p.to ≡ true
-unfolding pair_fits
+unfolding pair_fits_in is_osd_id_in
 pair_to p h = grind arith
 
 -- what is within the limits in an exception that is
 pub few_entries : {P : Type 0} (fits : P → Bool) (e : ExceptionPart P) → exception_fits fits e ≡ true → length e.entries ≤ 20
-unfolding exception_fits has_between
+unfolding exception_fits_in has_between
 few_entries fits e h = grind (arith, nat_tests)
 
 -- each entry of an exception that fits does
 pub entries_fit : {P : Type 0} (fits : P → Bool) (e : ExceptionPart P) → exception_fits fits e ≡ true → list_all fits e.entries ≡ true
-unfolding exception_fits
+unfolding exception_fits_in
 entries_fit fits e h = grind arith
 
 -- each exception of a list that fits does
 pub each_fits : {P : Type 0} (fits : P → Bool) (es : List (ExceptionPart P)) → exceptions_fit fits es ≡ true → list_all (exception_fits fits) es ≡ true
-unfolding exceptions_fit
+unfolding entries_fit_in
 each_fits fits es h = grind arith

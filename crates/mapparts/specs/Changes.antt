@@ -1,4 +1,4 @@
--- The parts of changes as a text states them: their limits, those of plain clusters, and what is wrong with them.
+-- The parts of changes as a text states them: their limits, and what is wrong with them.
 use Rattle.std.specs.Prelude.{ℤ, pos, ◌&&◌, Bool, true, List}
 use Rattle.std.specs.List.{list_all}
 use Rattle.std.specs.Option.{option_map_or}
@@ -11,9 +11,9 @@ use Rattle.mapparts.specs.declared.parts.PoolPart.{PoolPart}
 use Rattle.mapparts.specs.declared.parts.GrowPart.{GrowPart}
 use Rattle.mapparts.specs.declared.parts.ExceptionPart.{ExceptionPart}
 use Rattle.mapparts.specs.declared.pg_parts.PgParts.{PgParts}
-use Rattle.mapparts.specs.Limits.{max_base, max_entries, max_pool_id, max_stated_reweight}
-use Rattle.mapparts.specs.Parts.{crush_fits, growth_fits, grows_evenly, has_enough_groups, is_between, has_between, is_osd_id, pool_fits, pg_fits, pair_fits, exceptions_fit}
-use Rattle.mapparts.specs.Plain.{osd_is_plain, pair_is_plain, pool_is_plain, growth_is_plain, crush_is_plain, exceptions_are_plain, plain_entries}
+use Rattle.mapparts.specs.declared.limits.Limits.{Limits}
+use Rattle.mapparts.specs.Limits.{stock, max_base, max_pool_id, max_stated_reweight}
+use Rattle.mapparts.specs.Parts.{crush_fits_in, entries_fit_in, exception_fits_in, growth_fits_in, grows_evenly, has_enough_groups, is_between, has_between, is_osd_id_in, pair_fits_in, pg_fits_in, pool_fits_in}
 
 -- ---- limits
 
@@ -21,56 +21,54 @@ use Rattle.mapparts.specs.Plain.{osd_is_plain, pair_is_plain, pool_is_plain, gro
 unfoldable pub is_pool_id : ℤ → Bool
 is_pool_id z = is_between (pos 1) (pos max_pool_id) z
 
--- an OSD's id and a reweight of 32 bits
-unfoldable pub reweight_fits : ReweightPart → Bool
-reweight_fits w = is_osd_id w.osd && is_between (pos 0) (pos max_stated_reweight) w.weight
+-- an OSD and its new reweight, of 32 bits
+unfoldable pub reweight_fits_in : Limits → ReweightPart → Bool
+reweight_fits_in l w = is_osd_id_in l w.osd && is_between (pos 0) (pos max_stated_reweight) w.weight
 
--- at most 1,048,576 entries, each within its limits
-abbrev pub entries_fit : {X : Type 0} → (X → Bool) → List X → Bool
-entries_fit fits xs = has_between 0 max_entries xs && list_all fits xs
+-- no more ids of pools than a list may have entries
+abbrev pub pool_ids_fit_in : Limits → List ℤ → Bool
+pool_ids_fit_in l ids = has_between 0 l.entries ids && list_all is_pool_id ids
 
 -- the lists of each family
-abbrev pub pool_changes_fit : PoolChanges ℤ PoolPart GrowPart → Bool
-pool_changes_fit c = entries_fit is_pool_id c.gone && entries_fit pool_fits c.come && entries_fit growth_fits c.grow
+abbrev pub pool_changes_fit_in : Limits → PoolChanges ℤ PoolPart GrowPart → Bool
+pool_changes_fit_in l c =
+    pool_ids_fit_in l c.gone && entries_fit_in (pool_fits_in l) l c.come && entries_fit_in (growth_fits_in l) l c.grow
 
-abbrev pub osd_changes_fit : OsdChanges ℤ → Bool
-osd_changes_fit c = entries_fit is_osd_id c.down && entries_fit is_osd_id c.up
+abbrev pub osd_changes_fit_in : Limits → OsdChanges ℤ → Bool
+osd_changes_fit_in l c = entries_fit_in (is_osd_id_in l) l c.down && entries_fit_in (is_osd_id_in l) l c.up
 
-abbrev pub exception_changes_fit : {P : Type 0} → (P → Bool) → ExceptionChanges PgParts (ExceptionPart P) → Bool
-exception_changes_fit fits c = entries_fit pg_fits c.gone && exceptions_fit fits c.come
+abbrev pub exception_changes_fit_in : {P : Type 0} → (P → Bool) → Limits → ExceptionChanges PgParts (ExceptionPart P)
+    → Bool
+exception_changes_fit_in within l c =
+    entries_fit_in (pg_fits_in l) l c.gone && entries_fit_in (exception_fits_in within l) l c.come
 
 -- every number and every length of the change
-unfoldable pub change_fits : RawChange → Bool
-change_fits c =
+unfoldable pub change_fits_in : Limits → RawChange → Bool
+change_fits_in l c =
     is_between (pos 0) (pos max_base) c.base
-    && pool_changes_fit c.pools && option_map_or crush_fits c.crush true
-    && osd_changes_fit c.osds && entries_fit reweight_fits c.weights
-    && exception_changes_fit is_osd_id c.explicit && exception_changes_fit pair_fits c.items
+    && pool_changes_fit_in l c.pools && option_map_or (crush_fits_in l) c.crush true
+    && osd_changes_fit_in l c.osds && entries_fit_in (reweight_fits_in l) l c.weights
+    && exception_changes_fit_in (is_osd_id_in l) l c.explicit && exception_changes_fit_in (pair_fits_in l) l c.items
 
--- ---- plain clusters
+-- ---- the same by the limits of all clusters
 
--- entries of a plain cluster, and no more of them
-abbrev pub entries_are_plain : {X : Type 0} → (X → Bool) → List X → Bool
-entries_are_plain plain xs = has_between 0 plain_entries xs && list_all plain xs
+abbrev pub reweight_fits : ReweightPart → Bool
+reweight_fits = reweight_fits_in stock
 
--- the lists of each family
-abbrev pub pool_changes_are_plain : PoolChanges ℤ PoolPart GrowPart → Bool
-pool_changes_are_plain c =
-    has_between 0 plain_entries c.gone && entries_are_plain pool_is_plain c.come
-    && entries_are_plain growth_is_plain c.grow
+abbrev pub entries_fit : {X : Type 0} → (X → Bool) → List X → Bool
+entries_fit fits xs = entries_fit_in fits stock xs
 
-abbrev pub osd_changes_are_plain : OsdChanges ℤ → Bool
-osd_changes_are_plain c = entries_are_plain osd_is_plain c.down && entries_are_plain osd_is_plain c.up
+abbrev pub pool_changes_fit : PoolChanges ℤ PoolPart GrowPart → Bool
+pool_changes_fit = pool_changes_fit_in stock
 
-abbrev pub exception_changes_are_plain : {P : Type 0} → (P → Bool) → ExceptionChanges PgParts (ExceptionPart P) → Bool
-exception_changes_are_plain plain c = has_between 0 plain_entries c.gone && exceptions_are_plain plain c.come
+abbrev pub osd_changes_fit : OsdChanges ℤ → Bool
+osd_changes_fit = osd_changes_fit_in stock
 
--- no list longer, no other OSD, no pool with more groups or places, and no greater CRUSH map than in plain clusters
-unfoldable pub change_is_plain : RawChange → Bool
-change_is_plain c =
-    pool_changes_are_plain c.pools && crush_is_plain c.crush
-    && osd_changes_are_plain c.osds && entries_are_plain (λ w. osd_is_plain w.osd) c.weights
-    && exception_changes_are_plain osd_is_plain c.explicit && exception_changes_are_plain pair_is_plain c.items
+abbrev pub exception_changes_fit : {P : Type 0} → (P → Bool) → ExceptionChanges PgParts (ExceptionPart P) → Bool
+exception_changes_fit fits c = exception_changes_fit_in fits stock c
+
+abbrev pub change_fits : RawChange → Bool
+change_fits = change_fits_in stock
 
 -- ---- what is wrong
 

@@ -2,6 +2,5 @@ pub mod Limits
 pub mod Digits
 pub mod PgText
 pub mod Parts
-pub mod Plain
 pub mod Profiles
 pub mod Changes

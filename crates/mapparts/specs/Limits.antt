@@ -1,5 +1,9 @@
--- The limits of maps and changes that are none of a forest or a rule (those are crush's), each named once.
-use Rattle.std.specs.Prelude.{ℕ, nat_abs}
+-- The limits of maps and changes that are none of a forest or a rule (those are crush's), each named once, and the
+-- table of those that hang on the profile.
+use Rattle.std.specs.Prelude.{ℕ, pos, nat_abs}
+use Rattle.buckets.specs.Limits.{max_devices, plain_devices, max_straws}
+use Rattle.crush.specs.Limits.{max_buckets, plain_buckets, max_count, max_size}
+use Rattle.mapparts.specs.declared.limits.Limits.{Limits}
 use Rattle.mapparts.specs.declared.limits.TheConstants as limits
 
 -- the greatest version of the form in which maps are stated
@@ -50,3 +54,60 @@ max_base = nat_abs limits.MAX_BASE
 -- the greatest reweight that a change may state
 abbrev pub max_stated_reweight : ℕ
 max_stated_reweight = nat_abs limits.MAX_STATED_REWEIGHT
+
+-- how many groups a pool of a plain cluster has at most, how many items a bucket, and how many rules and pools it has
+abbrev pub plain_groups : ℕ
+plain_groups = nat_abs limits.PLAIN_GROUPS
+
+abbrev pub plain_items : ℕ
+plain_items = limits.PLAIN_ITEMS
+
+abbrev pub plain_rules : ℕ
+plain_rules = limits.PLAIN_RULES
+
+abbrev pub plain_pools : ℕ
+plain_pools = limits.PLAIN_POOLS
+
+-- how many exceptions of one kind it has at most, and how many entries a list of a change
+abbrev pub plain_entries : ℕ
+plain_entries = limits.PLAIN_ENTRIES
+
+-- how many places a pool of it has at most, and so how many entries an exception, and how many items a step chooses
+abbrev pub plain_size : ℕ
+plain_size = limits.PLAIN_PLACES
+
+-- the greatest id of an OSD of it
+abbrev pub plain_osd_id : ℕ
+plain_osd_id = nat_abs limits.MAX_PLAIN_OSD_ID
+
+-- the limits of plain clusters
+abbrev pub plain : Limits
+plain = record {
+  max_osd = pos plain_devices;
+  osd = pos plain_osd_id;
+  buckets = plain_buckets;
+  items = plain_items;
+  rules = plain_rules;
+  pools = plain_pools;
+  groups = pos plain_groups;
+  count = pos plain_size;
+  size = pos plain_size;
+  places = plain_size;
+  entries = plain_entries;
+}
+
+-- those of all clusters
+abbrev pub stock : Limits
+stock = record {
+  max_osd = pos max_devices;
+  osd = pos max_osd_id;
+  buckets = max_buckets;
+  items = max_straws;
+  rules = max_rules;
+  pools = max_pools;
+  groups = pos max_groups;
+  count = pos max_count;
+  size = pos max_size;
+  places = max_size;
+  entries = max_entries;
+}

@@ -10,13 +10,18 @@ use Rattle.mapparts.specs.declared.parts.StepPart.{StepPart}
 use Rattle.mapparts.specs.declared.parts.StepPart.TheVariants.{SetChooseTries, SetChooseleafTries, SetChooseleafVaryR, SetChooseleafStable, Take, Choose, Emit}
 use Rattle.mapparts.specs.declared.profile.Profile.{Profile}
 use Rattle.mapparts.specs.declared.profile.Profile.TheVariants.{Plain, Stock}
-use Rattle.mapparts.specs.Limits.{max_pools}
-use Rattle.mapparts.specs.Plain.{plain_pools}
+use Rattle.mapparts.specs.declared.limits.Limits.{Limits}
+use Rattle.mapparts.specs.Limits.{max_pools, plain_pools, plain, stock}
 
 -- whether the limits are those of stock clusters
 abbrev pub is_stock : Profile → Bool
 is_stock Plain = false
 is_stock Stock = true
+
+-- the limits that hold
+abbrev pub limits_of : Profile → Limits
+limits_of Plain = plain
+limits_of Stock = stock
 
 -- how many pools a cluster has at most
 abbrev pub most_pools : Profile → ℕ

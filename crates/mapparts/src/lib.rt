@@ -1,28 +1,27 @@
 //! Maps and changes as texts state them: parts whose numbers are any whole numbers, and which of them are within the
 //! limits. The values that such parts stand for are those of `maptypes`.
 //!
-//! - `limits`, `plain`, `profile`: the limits of all maps, those of plain clusters, and which of them hold
+//! - `limits`, `profile`: the limits, of all maps and by profile, and which of them hold
 //! - `parts`, `change`: the parts of maps, and those of changes by families
 //! - `numbers`, `numeral`: numbers between bounds, and numbers that digits write
 //! - `pg_parts`: the parts of a group in its text
-//! - `fits`, `pools`, `exceptions`, `change_fits`: whether parts are within the limits
+//! - `limited`, `pools`, `fits`, `change_fits`: whether parts, maps and changes are within the limits
 #![tactic(auto)]
 
 pub mod change;
 pub mod change_fits;
-pub mod exceptions;
 pub mod fits;
+pub mod limited;
 pub mod limits;
 pub mod numbers;
 mod numeral;
 pub mod parts;
 pub mod pg_parts;
-pub mod plain;
-pub mod pools;
+mod pools;
 pub mod profile;
 
 pub use change::{ExceptionChanges, OsdChanges, PoolChanges, RawChange, ReweightPart};
-pub use exceptions::{EntryPart, exceptions_fit, pg_fits};
+pub use limited::Limited;
 pub use numeral::number;
 pub use parts::{
     BucketPart, ChoosePart, CrushParts, ExceptionPart, GrowPart, ItemPart, MapParts, OsdPart,

@@ -1,12 +1,10 @@
 //! Numbers between bounds, and the narrower numbers that they then are.
 
-ghost use Rattle.std.specs.Prelude.{◌≡◌, length, ◌≤◌, IsTrue, ℤ, pos, negsuc, nat_abs, true, ◌<◌, ◌≤ℤ◌};
+ghost use Rattle.std.specs.Prelude.{◌≡◌, length, ◌≤◌, IsTrue, ℤ, pos, negsuc, nat_abs, true, ◌≤ℤ◌};
 ghost use Rattle.buckets.specs.Buckets.{is_bucket_id};
-ghost use Rattle.mapparts.specs.Parts.{is_between, has_between, is_osd_id};
-ghost use Rattle.mapparts.specs.Plain.{osd_is_plain};
-ghost use Rattle.buckets.specs.Limits.{max_devices};
+ghost use Rattle.mapparts.specs.Parts.{is_between, has_between};
 
-use crate::limits::{LOWEST_BUCKET, MAX_OSD_ID, MAX_PLAIN_OSDS};
+use crate::limits::LOWEST_BUCKET;
 
 /// Whether a number is among `low` to `high`.
 #[tactic(auto, unfolding(crate::specs::Parts::is_between))]
@@ -24,22 +22,6 @@ pub fn is_bucket_id(number: i128) -> bool
     ensures item { result ≡ true → IsTrue (is_between (negsuc 65535) (pos 4095) number) }
 {
     LOWEST_BUCKET <= number && number < 0
-}
-
-/// Whether a number can be an OSD's id.
-#[tactic(auto, unfolding(crate::specs::Parts::is_osd_id))]
-pub fn is_osd_id(number: i128) -> bool
-    ensures value { result ≡ is_osd_id number }
-    ensures device { result ≡ true → nat_abs number < max_devices }
-{
-    is_between(0, MAX_OSD_ID, number)
-}
-
-/// Whether a number is no OSD, or one that a plain cluster may have.
-pub fn osd_is_plain(number: i128) -> bool
-    ensures { result ≡ osd_is_plain number }
-{
-    number < MAX_PLAIN_OSDS
 }
 
 /// Whether a list has `low` to `high` entries.

@@ -2,12 +2,55 @@
 
 ghost use Rattle.std.specs.Prelude.{◌≡◌};
 ghost use Rattle.std.specs.List.{list_all};
+ghost use Rattle.mapparts.specs.Limits.{plain, stock};
 ghost use Rattle.mapparts.specs.Profiles.{is_plain_kind, are_plain_kinds, is_plain_word, are_plain_words};
 
-use crate::limits::MAX_POOLS;
+use crate::limits::{
+    Limits, MAX_COUNT, MAX_ENTRIES, MAX_GROUPS, MAX_OSD_ID, MAX_OSDS, MAX_PLACES, MAX_PLAIN_OSD_ID,
+    MAX_PLAIN_OSDS, MAX_POOLS, MAX_RULES, MAX_SIZE, PLAIN_ENTRIES, PLAIN_GROUPS, PLAIN_ITEMS,
+    PLAIN_PLACES, PLAIN_POOLS, PLAIN_RULES, PLAIN_SIZE,
+};
 use crate::parts::{BucketPart, RulePart, StepPart};
-use crate::plain::PLAIN_POOLS;
 use buckets::BucketKind;
+use crush::limits::{MAX_BUCKETS, MAX_STRAWS, PLAIN_BUCKETS};
+
+/// The limits of plain clusters.
+fn plain() -> Limits
+    ensures { result ≡ plain }
+{
+    Limits {
+        max_osd: MAX_PLAIN_OSDS,
+        osd: MAX_PLAIN_OSD_ID,
+        buckets: PLAIN_BUCKETS,
+        items: PLAIN_ITEMS,
+        rules: PLAIN_RULES,
+        pools: PLAIN_POOLS,
+        groups: PLAIN_GROUPS,
+        count: PLAIN_SIZE,
+        size: PLAIN_SIZE,
+        places: PLAIN_PLACES,
+        entries: PLAIN_ENTRIES,
+    }
+}
+
+/// Those of all clusters.
+fn stock() -> Limits
+    ensures { result ≡ stock }
+{
+    Limits {
+        max_osd: MAX_OSDS,
+        osd: MAX_OSD_ID,
+        buckets: MAX_BUCKETS,
+        items: MAX_STRAWS,
+        rules: MAX_RULES,
+        pools: MAX_POOLS,
+        groups: MAX_GROUPS,
+        count: MAX_COUNT,
+        size: MAX_SIZE,
+        places: MAX_PLACES,
+        entries: MAX_ENTRIES,
+    }
+}
 
 /// Which maps and changes texts may state.
 #[derive(Clone, Copy, Debug, PartialEq, Eq)]
@@ -67,7 +110,7 @@ fn are_plain_words(rules: &[RulePart]) -> bool
 
 impl Profile {
     ghost use Rattle.std.specs.Prelude.{◌≡◌};
-    ghost use Rattle.mapparts.specs.Profiles.{is_stock, most_pools, has_kinds, has_words};
+    ghost use Rattle.mapparts.specs.Profiles.{is_stock, limits_of, most_pools, has_kinds, has_words};
 
     /// Whether the limits are those of stock clusters.
     pub fn is_stock(self) -> bool
@@ -76,6 +119,16 @@ impl Profile {
         match self {
             Profile::Plain => false,
             Profile::Stock => true,
+        }
+    }
+
+    /// The limits that hold.
+    pub fn limits(self) -> Limits
+        ensures { result ≡ limits_of self }
+    {
+        match self {
+            Profile::Plain => plain(),
+            Profile::Stock => stock(),
         }
     }
 

@@ -2,6 +2,7 @@
 
 ghost use Rattle.std.specs.Prelude.{◌≡◌, ◌≤◌, pos, nat_abs, true, map, length, IfOk, IsTrue};
 ghost use Rattle.std.specs.List.{list_all};
+ghost use Rattle.mapparts.specs.Limits.{stock};
 ghost use Rattle.mapparts.specs.Parts.{is_between, exception_fits, exceptions_fit};
 ghost use Rattle.maptypes.specs.Values.{exception_of};
 
@@ -9,7 +10,7 @@ use crate::exception::{Exception, Pair};
 use crate::pg::Pg;
 use crate::short::{Blank, Short};
 use mapparts::numbers::word;
-use mapparts::{EntryPart, ExceptionPart, PairPart};
+use mapparts::{ExceptionPart, Limited, PairPart};
 use refusal::Memory;
 use std::alloc::Global;
 
@@ -23,14 +24,15 @@ fn short_id(id: i128) -> u16
 }
 
 /// A part that stands for an entry of an exception.
-pub trait StandsFor<E>: EntryPart {
+pub trait StandsFor<E>: Limited + Copy + Drop {
     ghost use Rattle.std.specs.Prelude.{◌≡◌, true};
+    ghost use Rattle.mapparts.specs.Limits.{stock};
 
     ghost entry_of: { Self → E };
 
     /// The entry that it stands for.
     fn entry(&self) -> E
-        requires { Self.within self.now ≡ true }
+        requires { Self.within stock self.now ≡ true }
         ensures { result ≡ entry_of self.now };
 }
 
@@ -60,7 +62,7 @@ impl StandsFor<Pair> for PairPart {
 /// The entries that at most 20 parts within their limits stand for, in their order.
 fn entries_of<E: Blank, P: StandsFor<E>>(parts: &[P]) -> Short<E>
     requires few { length parts.now ≤ 20 }
-    requires fits { list_all P.within parts.now ≡ true }
+    requires fits { list_all (P.within stock) parts.now ≡ true }
     ensures { result ≡ map P.entry_of parts.now }
 {
     let mut entries = Short::new();
@@ -72,7 +74,7 @@ fn entries_of<E: Blank, P: StandsFor<E>>(parts: &[P]) -> Short<E>
 
 /// The exception that a part within its limits stands for.
 fn exception_of<E: Blank, P: StandsFor<E>>(part: &ExceptionPart<P>) -> Exception<E>
-    requires { exception_fits P.within part.now ≡ true }
+    requires { exception_fits (P.within stock) part.now ≡ true }
     ensures { result ≡ exception_of P.entry_of part.now }
 {
     Exception {
@@ -90,7 +92,7 @@ pub fn exceptions_of<E: Blank, P: StandsFor<E>>(
     alloc: Global,
     parts: &[ExceptionPart<P>],
 ) -> Result<Vec<Exception<E>>, Memory>
-    requires { exceptions_fit P.within parts.now ≡ true }
+    requires { exceptions_fit (P.within stock) parts.now ≡ true }
     ensures { IfOk result (λ es. es.items ≡ map (exception_of P.entry_of) parts.now) }
 {
     let mut exceptions = Vec::with_capacity(alloc, parts.len())?;

@@ -2,10 +2,8 @@
 
 use crate::pool::Pool;
 use keylist::Keyed;
-use mapparts::GrowPart;
 use mapparts::numbers::word;
-use mapparts::plain::growth_is_plain;
-use mapparts::pools::growth_fits;
+use mapparts::{GrowPart, Limited, Profile};
 use refusal::Refusal;
 use std::marker::Model;
 
@@ -37,7 +35,7 @@ impl Grow {
     ghost use Rattle.maptypes.specs.Growth.{IsGrowth, with_growth};
     ghost use Rattle.mapparts.specs.Parts.{growth_fits, grows_evenly, growth_fault};
     ghost use Rattle.maptypes.specs.Values.{growth_of};
-    ghost use Rattle.mapparts.specs.Plain.{plain_growth_fault};
+    ghost use Rattle.mapparts.specs.Limits.{plain, stock};
 
     /// What a pool of a plain cluster grows to.
     ///
@@ -46,7 +44,7 @@ impl Grow {
     /// `BadLimit` (12) where a number is outside the limits, those of plain clusters among them; else `BadPool` (15)
     /// where `pgp_num` is above `pg_num`.
     pub fn new(pool: i128, pg_num: i128, pgp_num: i128) -> Result<Grow, Refusal>
-        ensures { Judges result (plain_growth_fault (record { pool = pool; pg_num = pg_num; pgp_num = pgp_num }))
+        ensures { Judges result (growth_fault plain (record { pool = pool; pg_num = pg_num; pgp_num = pgp_num }))
             (λ g. g ≡ growth_of (record { pool = pool; pg_num = pg_num; pgp_num = pgp_num })) }
     {
         let part = GrowPart {
@@ -54,10 +52,10 @@ impl Grow {
             pg_num,
             pgp_num,
         };
-        if !growth_is_plain(&part) {
+        if !part.fits(&Profile::Plain.limits()) {
             return Err(Refusal::BadLimit);
         }
-        Grow::stock(part)
+        Grow::of_fitting(part)
     }
 
     /// What a pool of a stock cluster grows to.
@@ -66,9 +64,9 @@ impl Grow {
     ///
     /// `BadLimit` (12) where a number is outside its limits; else `BadPool` (15) where `pgp_num` is above `pg_num`.
     pub fn stock(part: GrowPart) -> Result<Grow, Refusal>
-        ensures { Judges result (growth_fault part) (λ g. g ≡ growth_of part) }
+        ensures { Judges result (growth_fault stock part) (λ g. g ≡ growth_of part) }
     {
-        if !growth_fits(&part) {
+        if !part.fits(&Profile::Stock.limits()) {
             return Err(Refusal::BadLimit);
         }
         Grow::of_fitting(part)

@@ -2,10 +2,8 @@
 
 use crush::RuleKind;
 use keylist::Keyed;
-use mapparts::PoolPart;
 use mapparts::numbers::word;
-use mapparts::plain::pool_is_plain;
-use mapparts::pools::pool_fits;
+use mapparts::{Limited, PoolPart, Profile};
 use refusal::Refusal;
 use std::marker::Model;
 
@@ -58,11 +56,10 @@ impl Pool {
     ghost use Rattle.std.specs.Prelude.{◌≡◌, ◌<◌, ◌≤◌, true};
     ghost use Rattle.refusal.specs.Outcomes.{Judges, refused_unless};
     ghost use Rattle.refusal.specs.declared.refused.Refusal.TheVariants.{BadPool};
-    ghost use Rattle.mapparts.specs.Limits.{max_groups};
+    ghost use Rattle.mapparts.specs.Limits.{max_groups, plain, stock};
     ghost use Rattle.maptypes.specs.Pools.{IsWithinLimits};
     ghost use Rattle.mapparts.specs.Parts.{pool_fits, has_enough_groups, pool_fault};
     ghost use Rattle.maptypes.specs.Values.{pool_of};
-    ghost use Rattle.mapparts.specs.Plain.{plain_pool_fault};
 
     /// The pool of a plain cluster that its parts state.
     ///
@@ -71,12 +68,12 @@ impl Pool {
     /// `BadLimit` (12) where a number is outside the limits, those of plain clusters among them; else `BadPool` (15)
     /// where `pgp_num` is above `pg_num`.
     pub fn new(part: PoolPart) -> Result<Pool, Refusal>
-        ensures { Judges result (plain_pool_fault part) (λ pool. pool ≡ pool_of part) }
+        ensures { Judges result (pool_fault plain part) (λ pool. pool ≡ pool_of part) }
     {
-        if !pool_is_plain(&part) {
+        if !part.fits(&Profile::Plain.limits()) {
             return Err(Refusal::BadLimit);
         }
-        Pool::stock(part)
+        Pool::of_fitting(part)
     }
 
     /// The pool of a stock cluster that its parts state.
@@ -85,9 +82,9 @@ impl Pool {
     ///
     /// `BadLimit` (12) where a number is outside its limits; else `BadPool` (15) where `pgp_num` is above `pg_num`.
     pub fn stock(part: PoolPart) -> Result<Pool, Refusal>
-        ensures { Judges result (pool_fault part) (λ pool. pool ≡ pool_of part) }
+        ensures { Judges result (pool_fault stock part) (λ pool. pool ≡ pool_of part) }
     {
-        if !pool_fits(&part) {
+        if !part.fits(&Profile::Stock.limits()) {
             return Err(Refusal::BadLimit);
         }
         Pool::of_fitting(part)

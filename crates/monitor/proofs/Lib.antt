@@ -1,6 +1,7 @@
+mod Tallied
 pub mod Histories
 pub mod Followers
 pub mod Balancing
 pub mod Within
-mod Making
+pub mod Making
 mod Counting

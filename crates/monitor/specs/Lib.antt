@@ -1,4 +1,5 @@
 pub mod Histories
+pub mod Tallies
 pub mod Members
 pub mod Opening
 pub mod Looking

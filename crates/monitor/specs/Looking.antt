@@ -17,4 +17,4 @@ pub record IsLookOf {K : Type 0} (monitor : Monitored) (look : Look K) : Type 0 
   pub row : look.pass.row ≡ monitor.row
   pub lawful : IsLawful monitor.first look.pass.history
   pub room : length look.own.items ≡ length monitor.row.cells
-  pub knows : Knows monitor look.seen look.mine look.pass.history
+  pub knows : Knows monitor look.seen look.tally look.pass.history

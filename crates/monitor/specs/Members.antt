@@ -1,5 +1,5 @@
 -- What callers see of a monitor, who its members are, and what a member that holds its lock knows.
-use Rattle.std.specs.Prelude.{◌≡◌, ◌⊎◌, ℕ, ◌+◌, Bool, true, false, List, [], length, replicate, IsSome, IsSomeAnd, IfSome, Option, option_and_then, option_map, unwrap_or, Result, Err, IfErr, OnOk, IfOk}
+use Rattle.std.specs.Prelude.{◌≡◌, ◌⊎◌, ℕ, ◌+◌, Bool, true, false, List, [], length, replicate, IsSomeAnd, option_and_then, option_map, unwrap_or, Result, Err, IfErr, OnOk, IfOk}
 use Rattle.std.specs.Option.{option_map_or}
 use Rattle.refusal.specs.declared.refused.Refusal.{Refusal}
 use Rattle.refusal.specs.declared.refused.Refusal.TheVariants.{SeatSpent}
@@ -7,8 +7,6 @@ use Rattle.ticketlock.specs.declared.table.Words.{Words}
 use Rattle.ticketlock.specs.declared.read_guard.ReadGuard.{ReadGuard}
 use Rattle.ticketlock.specs.declared.write_guard.WriteGuard.{WriteGuard}
 use Rattle.tip.specs.declared.seen.Seen.{Seen as SeenCount}
-use Rattle.tip.specs.declared.twins.Kept.{Kept}
-use Rattle.tip.specs.declared.twins.Mine.{Mine}
 use Rattle.ticketlock.specs.Standing.{IsAt}
 use Rattle.ticketlock.specs.Callers.{IsNewAt}
 use Rattle.ticketlock.specs.Guards.{first_of_read, first_of_write}
@@ -20,27 +18,14 @@ use Rattle.epochlog.specs.Epochs.{Line, Seen}
 use Rattle.state.specs.States.{StateFacts, opened}
 use Rattle.monitor.specs.Histories.{GoesOn}
 use Rattle.monitor.specs.declared.locked.Locked.{Locked}
+use Rattle.monitor.specs.declared.tally.Tally.{Tally}
+use Rattle.monitor.specs.Tallies.{names_of, total_of, IsTallyOf}
 use Rattle.monitor.specs.declared.member.Member.{Member}
 
--- the name of the count that the only member of a monitor knows too, where there is but one
-abbrev pub twin_of : {K : Type 0} → Locked K → Option ℕ
-twin_of locked = option_map (λ t. t.name) locked.twin
-
--- the twin of a count, if it has one, is there too
-abbrev pub IsTwin : Option Kept → ℕ → Type 0
-IsTwin twin n = IfSome twin (λ t. t.count ≡ n)
-
--- who knows where the twin is, if there is one, by the twin and by its name
-abbrev pub Matches : Option Kept → Option Mine → ℕ → Type 0
-Matches twin mine n = IfSome twin (λ t. IsSomeAnd mine (λ m. (m.name ≡ t.name) × (m.count ≡ n)))
-
-abbrev pub KnowsTwin : Option ℕ → Option Mine → ℕ → Type 0
-KnowsTwin twin mine n = IfSome twin (λ name. IsSomeAnd mine (λ m. (m.name ≡ name) × (m.count ≡ n)))
-
--- as many changes are counted as a state has made
+-- as many changes are counted as a state has made, and as its members have made, each by itself
 pub record Counts {K : Type 0} (locked : Locked K) : Type 0 where
   pub tip : locked.tip.count ≡ length locked.state.value.pass.history
-  pub twin : IsTwin locked.twin (length locked.state.value.pass.history)
+  pub total : total_of locked.kept.items ≡ length locked.state.value.pass.history
 
 -- what callers see of a monitor: the first map, the row of epochs, the words of the lock from which its seats draw, the
 -- state that the lock was made with, by which profile the texts of its changes are read, and whether there is one
@@ -50,9 +35,9 @@ pub record Monitored : Type 0 where
   pub row : Line
   pub words : Words
   pub made : StateFacts
-  -- the count of the state's changes, by its name, and the one that the only member knows too, where there is but one
+  -- the count of the state's changes, by its name, and of each member's, by theirs
   pub count : ℕ
-  pub twin : Option ℕ
+  pub tallies : List ℕ
   pub profile : Profile
   pub alone : Bool
 
@@ -65,7 +50,7 @@ monitored first row words made profile alone =
       words = words;
       made = made.state.value;
       count = made.tip.name;
-      twin = twin_of made;
+      tallies = names_of made.kept.items;
       profile = profile;
       alone = alone;
     }
@@ -80,7 +65,7 @@ pub record IsStateOf (monitor : Monitored) (state : StateFacts) : Type 0 where
 pub record IsOpened (monitor : Monitored) : Type 0 where
   pub made : monitor.made ≡ opened monitor.first monitor.row
   pub begins : monitor.row.first ≡ monitor.first.epoch
-  pub twin : monitor.alone ≡ true → IsSome monitor.twin
+  pub one : monitor.alone ≡ true → length monitor.tallies ≡ 1
 
 -- the pass is of the monitor's row, with a history that is lawful from the first map
 pub record IsPassOf (monitor : Monitored) (pass : Seen) : Type 0 where
@@ -90,14 +75,15 @@ pub record IsPassOf (monitor : Monitored) (pass : Seen) : Type 0 where
 -- the counts are this monitor's
 pub record IsCountedBy {K : Type 0} (monitor : Monitored) (locked : Locked K) : Type 0 where
   pub name : locked.tip.name ≡ monitor.count
-  pub twin : twin_of locked ≡ monitor.twin
+  pub tallies : names_of locked.kept.items ≡ monitor.tallies
 
--- what a member knows of the count of a monitor's changes: that it was where the member's history ends, and where it is
--- if the member is the only one
-pub record Knows (monitor : Monitored) (seen : SeenCount) (mine : Option Mine) (history : List Step) : Type 0 where
+-- what a member knows of the count of a monitor's changes: that it was where the member's history ends; how many it has
+-- made itself; and that these are all of them if it is the only member
+pub record Knows (monitor : Monitored) (seen : SeenCount) (tally : Tally) (history : List Step) : Type 0 where
   pub name : seen.name ≡ monitor.count
   pub count : seen.count ≡ length history
-  pub twin : KnowsTwin monitor.twin mine (length history)
+  pub own : IsTallyOf monitor.tallies tally
+  pub all : monitor.alone ≡ true → tally.mine.count ≡ length history
 
 -- the member has a seat of this monitor; its pass is of the monitor's row, with a history that is lawful from the first
 -- map; and it knows of each epoch of the row whether it has made it
@@ -106,7 +92,7 @@ pub record IsMemberOf (monitor : Monitored) (member : Member) : Type 0 where
   pub row : member.pass.row ≡ monitor.row
   pub lawful : IsLawful monitor.first member.pass.history
   pub room : length member.own.items ≡ length monitor.row.cells
-  pub knows : Knows monitor member.seen member.mine member.pass.history
+  pub knows : Knows monitor member.seen member.tally member.pass.history
 
 -- no epoch of the monitor's row is a member's own
 abbrev pub none_own : Monitored → List Bool
@@ -125,6 +111,10 @@ draws_of monitor = monitor.words.limit
 -- how often the member's seat has drawn
 abbrev pub draws_made : Member → ℕ
 draws_made member = option_map_or (λ seat. seat.place.draws) member.seat 0
+
+-- how many changes the member has made
+abbrev pub changes_made : Member → ℕ
+changes_made member = member.tally.mine.count
 
 -- the member's seat has made its draws
 abbrev pub IsSpent : Monitored → Member → Type 0
@@ -148,6 +138,7 @@ pub record TakesHold {X : Type 0} (monitor : Monitored) (before after : Member) 
     Type 0 where
   pub goes_on : GoesOn monitor.first before.pass.history after.pass.history
   pub own : after.own ≡ before.own
+  pub tally : after.tally ≡ before.tally
   pub alone : StaysAlone monitor before.pass after.pass
   pub unspent : OnOk r (IsSpent monitor before → ⊥)
   pub once : IfOk r (λ hold. draws hold ≡ draws_made before + 1)

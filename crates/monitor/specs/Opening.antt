@@ -1,5 +1,5 @@
 -- What a monitor is opened with.
-use Rattle.std.specs.Prelude.{◌≡◌, ◌==◌, ℕ, ◌&&◌, ◌^◌, Bool, nat_le, List, length, All, IsSome}
+use Rattle.std.specs.Prelude.{◌≡◌, ◌==◌, ℕ, ◌&&◌, ◌^◌, Bool, nat_le, List, length, All}
 use Rattle.mapparts.specs.declared.profile.Profile.{Profile}
 use Rattle.mapparts.specs.declared.profile.Profile.TheVariants.{Plain}
 use Rattle.osdmap.specs.Maps.{ClusterMap}
@@ -9,7 +9,8 @@ use Rattle.monitor.specs.declared.member.Member.{Member}
 use Rattle.monitor.specs.declared.open.Limits.{Limits}
 use Rattle.monitor.specs.declared.open.Counting.{Counting}
 use Rattle.monitor.specs.declared.locked.Locked.{Locked}
-use Rattle.monitor.specs.Members.{Monitored, Matches, IsNewMemberOf, draws_of}
+use Rattle.monitor.specs.Tallies.{names_of, IsNewTallyOf}
+use Rattle.monitor.specs.Members.{Monitored, IsNewMemberOf, draws_of}
 
 -- the greatest number of seats
 abbrev pub max_seats : ℕ
@@ -29,14 +30,13 @@ can_open epoch journal seats draws =
 abbrev pub can_open_with : ℕ → Limits → Bool
 can_open_with epoch limits = can_open epoch limits.journal limits.seats limits.draws
 
--- what the members of a new monitor of so many seats know of the count of its changes: that there are none, and where
--- there is but one member that it knows all of them
+-- what the members of a new monitor of so many seats know of its changes: that there are none, and a count for each
 pub record StartsWith {K : Type 0} (made : Locked K) (seats : ℕ) (counting : Counting) : Type 0 where
   pub name : counting.seen.name ≡ made.tip.name
   pub count : counting.seen.count ≡ 0
-  pub twin : Matches made.twin counting.mine 0
-  pub few : IsSome counting.mine → seats ≡ 1
-  pub one : seats ≡ 1 → IsSome made.twin
+  pub kept : length (names_of made.kept.items) ≡ seats
+  pub each : All (IsNewTallyOf (names_of made.kept.items)) counting.tallies.items
+  pub many : length counting.tallies.items ≡ seats
 
 -- a monitor with this first map and a journal of such a capacity, whose lock was made with the state at its beginning:
 -- the first map is the present one, and the journal is empty; the texts of its changes are read by this profile;

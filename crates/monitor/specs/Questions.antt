@@ -43,10 +43,11 @@ abbrev pub IsDump : Answer → List ℕ → Type 0
 IsDump told bytes = (text : String Global) × (told ≡ answer.Dump text) × (string_bytes text ≡ bytes)
 
 -- a question of a member is answered, in a turn at the lock, by what is found in the map after the history that it has
--- seen then; it makes no epoch, and with none beside it, it sees no more than before
+-- seen then; it makes no change, and with none beside it, it sees no more than before
 pub record AnswersBy {X : Type 0} (monitor : Monitored) (before after : Member)
     (finds : ClusterMap → Result X Refusal → Type 0) (r : Result X Refusal) : Type 0 where
   pub turn : TakesTurn monitor before after r
   pub looks : Looks monitor.first before.pass.history after.pass.history finds r
   pub own : after.own ≡ before.own
+  pub tally : after.tally ≡ before.tally
   pub alone : StaysAlone monitor before.pass after.pass

@@ -13,4 +13,4 @@ pub record IsSharing {K : Type 0} (monitor : Monitored) (shared : Shared K) (mem
   pub row : member.pass.row ≡ monitor.row
   pub lawful : IsLawful monitor.first member.pass.history
   pub room : length member.own.items ≡ length monitor.row.cells
-  pub knows : Knows monitor member.seen member.mine member.pass.history
+  pub knows : Knows monitor member.seen member.tally member.pass.history

@@ -12,13 +12,13 @@ use std::sync::Wait;
 use std::thread::Threads;
 
 impl<K: Keeps + Drop> Monitor<K> {
-    ghost use Rattle.std.specs.Prelude.{◌≡◌, true, length, Some, IfErr};
+    ghost use Rattle.std.specs.Prelude.{◌≡◌, ◌+◌, true, length, Some, IfErr};
     ghost use Rattle.refusal.specs.declared.refused.Refusal.TheVariants.{NotStored};
     ghost use Rattle.balancer.specs.Requests.{asked_aim};
     ghost use Rattle.monitor.specs.Histories.{AnswersCommit, AnswersApply, AddsChange};
     ghost use Rattle.monitor.specs.Balances.{AnswersBalance, AddsPlan};
-    ghost use Rattle.monitor.specs.Members.{IsMemberOf, TakesTurn};
-    ghost use Rattle.monitor.specs.Making.{HasMade, planned_epoch};
+    ghost use Rattle.monitor.specs.Members.{IsMemberOf, TakesTurn, changes_made};
+    ghost use Rattle.monitor.specs.Making.{HasMade, planned_epoch, commits_made, plans_made};
 
     /// Commits a change to the map of the epoch `base`: the new epoch, and for how many groups a rule was run, which
     /// are those whose placement it can alter. The member has the lock alone.
@@ -43,6 +43,7 @@ impl<K: Keeps + Drop> Monitor<K> {
             member.old.pass.history member.new.pass.history base change result }
         ensures own { HasMade self.now.first.epoch member.old.own.items member.new.own.items
             (λ ok. Some ok.epoch) result }
+        ensures counted { changes_made member.new ≡ changes_made member.old + commits_made result }
         ensures stored { IfErr result (λ e. e ≡ NotStored → K.may_fail) }
         ensures alone { self.now.alone ≡ true →
             AddsChange member.old.pass.history member.new.pass.history change result }
@@ -58,7 +59,7 @@ impl<K: Keeps + Drop> Monitor<K> {
         );
         guard
             .value_mut()
-            .count(&mut member.seen, &mut member.mine, commits_made(&answer));
+            .count(&mut member.seen, &mut member.tally, commits_made(&answer));
         self.put_back(guard, member);
         mark_commit(&mut member.own, self.first.map().epoch(), &answer);
         answer
@@ -82,6 +83,7 @@ impl<K: Keeps + Drop> Monitor<K> {
             member.old.pass.history member.new.pass.history change result }
         ensures own { HasMade self.now.first.epoch member.old.own.items member.new.own.items
             (λ ok. Some ok.epoch) result }
+        ensures counted { changes_made member.new ≡ changes_made member.old + commits_made result }
         ensures stored { IfErr result (λ e. e ≡ NotStored → K.may_fail) }
         ensures alone { self.now.alone ≡ true →
             AddsChange member.old.pass.history member.new.pass.history change result }
@@ -91,7 +93,7 @@ impl<K: Keeps + Drop> Monitor<K> {
         let answer = apply(rt, state, &self.row, &mut member.pass, change);
         guard
             .value_mut()
-            .count(&mut member.seen, &mut member.mine, commits_made(&answer));
+            .count(&mut member.seen, &mut member.tally, commits_made(&answer));
         self.put_back(guard, member);
         mark_commit(&mut member.own, self.first.map().epoch(), &answer);
         answer
@@ -119,6 +121,7 @@ impl<K: Keeps + Drop> Monitor<K> {
             (length self.now.row.cells) member.old.pass.history member.new.pass.history
             request.entry.pool (asked_aim request.entry) request.entry.limit result }
         ensures own { HasMade self.now.first.epoch member.old.own.items member.new.own.items planned_epoch result }
+        ensures counted { changes_made member.new ≡ changes_made member.old + plans_made result }
         ensures stored { IfErr result (λ e. e ≡ NotStored → K.may_fail) }
         ensures alone { self.now.alone ≡ true →
             AddsPlan self.now.first member.old.pass.history member.new.pass.history
@@ -128,7 +131,7 @@ impl<K: Keeps + Drop> Monitor<K> {
         let state: &mut State<K> = &mut held.value_mut().state;
         let answer = balance(rt, state, &self.row, &mut member.pass, request);
         held.value_mut()
-            .count(&mut member.seen, &mut member.mine, plans_made(&answer));
+            .count(&mut member.seen, &mut member.tally, plans_made(&answer));
         self.put_back(held, member);
         mark_plan(&mut member.own, self.first.map().epoch(), &answer);
         answer

@@ -117,6 +117,15 @@ impl Follower {
         self.map.epoch()
     }
 
+    /// What its pass has seen of its row, of which its history is a beginning.
+    pub fn pass(&self) -> &Pass
+        ensures row { result.now.row ≡ self.now.row }
+        ensures seen { result.now.history ≡ self.now.seen }
+        ensures front { Begins self.now.history self.now.seen }
+    {
+        &self.pass
+    }
+
     /// Applies the incremental of the next epoch, unless the row shows none or the map refuses it.
     fn advance(&mut self, alloc: Global, row: &Row) -> Result<bool, Memory>
         requires { self.old.row ≡ row.now }

@@ -7,12 +7,15 @@
 //! - `calls`: what a member commits
 //! - `turns`, `locked`: a member's turns at the lock, and what lies under it
 //! - `shared`, `look`: holds of the lock that members share
+//! - `beside`: of two holds one that writes is beside no other
 //! - `news`: what one member has seen, told to another
+//! - `tally`: how many changes each member has made
 //! - `ended`: what a monitor ends with
 //! - `follower`: who reads the row of sealed epochs without the lock
 #![tactic(auto)]
 
 mod asking;
+mod beside;
 mod calls;
 mod ended;
 mod follower;
@@ -24,6 +27,7 @@ mod news;
 mod open;
 mod question;
 mod shared;
+mod tally;
 mod turns;
 
 pub use balancer::Request;
@@ -39,4 +43,4 @@ pub use question::{Answer, Question};
 pub use shared::Shared;
 pub use state::{Balance, Commit, State};
 pub use ticketlock::limits::{MAX_DRAWS, MAX_SEATS};
-pub use upmap_cleanup::Remnant;
+pub use upmap_cleanup::{Cause, Remnant};

@@ -1,6 +1,6 @@
 //! What lies under the lock of a monitor.
 
-ghost use Rattle.std.specs.Prelude.{◌≡◌, ◌≢◌, ◌≤◌, ◌+◌, IfErr, IsSome, length};
+ghost use Rattle.std.specs.Prelude.{◌≡◌, ◌≢◌, ◌≤◌, ◌+◌, IfErr, length};
 ghost use Rattle.refusal.specs.declared.refused.Refusal.TheVariants.{SeatSpent, NotStored};
 ghost use Rattle.osdmap.specs.Changes.{IsLawful, after};
 ghost use Rattle.epochlog.specs.Epochs.{Begins};
@@ -8,8 +8,10 @@ ghost use Rattle.balancer.specs.Requests.{asked_aim};
 ghost use Rattle.monitor.specs.Histories.{AnswersCommit, AnswersApply, AddsChange};
 ghost use Rattle.monitor.specs.Balances.{AnswersBalance, AddsPlan};
 ghost use Rattle.monitor.specs.Making.{commits_made, plans_made};
-ghost use Rattle.monitor.specs.Members.{Counts, Matches};
+ghost use Rattle.monitor.specs.Tallies.{names_of, IsTallyOf};
+ghost use Rattle.monitor.specs.Members.{Counts};
 
+use crate::tally::{Tally, agree, raise};
 use balancer::Request;
 use epochlog::{Keeps, Pass, Row};
 use maptypes::Change;
@@ -17,7 +19,7 @@ use refusal::Refusal;
 use state::{Balance, Commit, Proposal, State};
 use std::thread::Threads;
 use ticketlock::Fact;
-use tip::{Kept, Mine, Seen, Tip};
+use tip::{Kept, Seen, Tip};
 
 /// A state under the lock. Each that is lent or put back has the first map of the one that the lock was made with, and
 /// a pass of the same row, and its changes are counted; what else holds of it holds of every state.
@@ -26,18 +28,19 @@ pub(crate) struct Locked<K: Keeps + Drop> {
     pub(crate) state: Box<State<K>>,
     /// How many changes it has made: there is one such count, so a state that is behind cannot lie here.
     pub(crate) tip: Tip,
-    /// The same, which the only member knows too, where there is but one.
-    pub(crate) twin: Option<Kept>,
+    /// How many each member has made, which that member knows too: so nobody makes one in a call that does not say so.
+    pub(crate) kept: Vec<Kept>,
 }
 
 impl<K: Keeps + Drop> Fact for Locked<K> {
     ghost use Rattle.std.specs.Prelude.{◌≡◌};
-    ghost use Rattle.monitor.specs.Members.{Counts, twin_of};
+    ghost use Rattle.monitor.specs.Tallies.{names_of};
+    ghost use Rattle.monitor.specs.Members.{Counts};
 
     ghost fact = { λ made now.
         (now.state.value.first ≡ made.state.value.first)
         × (now.state.value.pass.row ≡ made.state.value.pass.row)
-        × (now.tip.name ≡ made.tip.name) × (twin_of now ≡ twin_of made) × Counts now };
+        × (now.tip.name ≡ made.tip.name) × (names_of now.kept.items ≡ names_of made.kept.items) × Counts now };
 }
 
 /// A pass that has seen no more than a state sees all that it has.
@@ -53,47 +56,38 @@ pub(crate) fn see<K: Keeps + Drop>(pass: &mut Pass, state: &State<K>)
     let _ = state.map();
 }
 
-/// That a member has seen no more than a state under the lock, and no less where it is the only one: whoever has the
-/// state has the count of its changes, and there is one such count.
-pub(crate) fn compare<K: Keeps + Drop>(locked: &Locked<K>, seen: &Seen, mine: &Option<Mine>)
+/// That a member has seen no more than a state under the lock, and has made all its changes where it is the only one:
+/// whoever has the state has the count of its changes, and there is one such count.
+pub(crate) fn compare<K: Keeps + Drop>(locked: &Locked<K>, seen: &Seen, tally: &Tally)
     requires counts { Counts locked.now }
     requires name { seen.now.name ≡ locked.now.tip.name }
-    requires twin { Matches locked.now.twin mine.now seen.now.count }
+    requires own { IsTallyOf (names_of locked.now.kept.items) tally.now }
     ensures seen { seen.now.count ≤ length locked.now.state.value.pass.history }
-    ensures alone { IsSome locked.now.twin → seen.now.count ≡ length locked.now.state.value.pass.history }
+    ensures all { length (names_of locked.now.kept.items) ≡ 1 →
+        tally.now.mine.count ≡ length locked.now.state.value.pass.history }
 {
     locked.tip.bounds(seen);
-    if let Some(kept) = &locked.twin {
-        match mine {
-            Some(mine) => kept.agrees(mine),
-            None => unreachable!(),
-        }
-    }
+    agree(&locked.kept, tally);
 }
 
 impl<K: Keeps + Drop> Locked<K> {
     ghost use Rattle.std.specs.Prelude.{◌≡◌, ◌+◌};
-    ghost use Rattle.monitor.specs.Members.{twin_of, IsTwin, Matches};
+    ghost use Rattle.monitor.specs.Tallies.{names_of, total_of, IsTallyOf};
 
     /// Counts so many changes more, for the member that has made them.
-    pub(crate) fn count(&mut self, seen: &mut Seen, mine: &mut Option<Mine>, more: u64)
-        requires twin { IsTwin self.old.twin self.old.tip.count }
-        requires mine { Matches self.old.twin mine.old self.old.tip.count }
+    pub(crate) fn count(&mut self, seen: &mut Seen, tally: &mut Tally, more: u64)
+        requires own { IsTallyOf (names_of self.old.kept.items) tally.old }
         ensures state { self.new.state ≡ self.old.state }
         ensures tip { (self.new.tip.name ≡ self.old.tip.name) × (self.new.tip.count ≡ self.old.tip.count + more) }
-        ensures name { twin_of self.new ≡ twin_of self.old }
-        ensures twin { IsTwin self.new.twin (self.old.tip.count + more) }
-        ensures mine { Matches self.new.twin mine.new (self.old.tip.count + more) }
+        ensures names { names_of self.new.kept.items ≡ names_of self.old.kept.items }
+        ensures total { total_of self.new.kept.items ≡ total_of self.old.kept.items + more }
+        ensures own { IsTallyOf (names_of self.new.kept.items) tally.new }
+        ensures made { tally.new.mine.count ≡ tally.old.mine.count + more }
         ensures seen { (seen.new.name ≡ self.old.tip.name) × (seen.new.count ≡ self.old.tip.count + more) }
     {
         self.tip.rise(more);
         *seen = self.tip.seen();
-        if let Some(kept) = &mut self.twin {
-            match mine {
-                Some(mine) => kept.rise(mine, more),
-                None => unreachable!(),
-            }
-        }
+        raise(&mut self.kept, tally, more);
     }
 }
 

@@ -7,12 +7,13 @@ use crate::locked::Locked;
 use crate::member::Member;
 use crate::monitor::Monitor;
 use crate::shared::Shared;
+use crate::tally::Tally;
 use crate::turns::state_of;
 use epochlog::{Keeps, Nothing, Pass};
 use state::State;
 use std::sync::Wait;
 use ticketlock::ReadGuard;
-use tip::{Mine, Seen};
+use tip::Seen;
 
 /// A member that shares the lock, and looks at the state as long as it likes: nobody commits meanwhile. It must be
 /// spent, by [`Look::leave`], and stays in its thread.
@@ -21,7 +22,7 @@ pub struct Look<'a, K: Keeps + Drop = Nothing> {
     pub(crate) pass: Pass,
     pub(crate) own: Vec<bool>,
     pub(crate) seen: Seen,
-    pub(crate) mine: Option<Mine>,
+    pub(crate) tally: Tally,
     pub ghost shows: { (lent guard).pass ≡ pass },
 }
 
@@ -41,6 +42,7 @@ impl<K: Keeps + Drop> Monitor<K> {
         ensures ok { IfOk result (λ look.
             IsLookOf self.now look × GoesOn self.now.first member.pass.history look.pass.history) }
         ensures own { IfOk result (λ look. look.own ≡ member.own) }
+        ensures tally { IfOk result (λ look. look.tally ≡ member.tally) }
         ensures err { IfErr result (λ back. (back ≡ member) × IsSpent self.now member) }
         ensures refused { OnOk result (¬ IsSpent self.now member) }
         ensures alone { IfOk result (λ look. StaysAlone self.now member.pass look.pass) }
@@ -53,7 +55,7 @@ impl<K: Keeps + Drop> Monitor<K> {
                 pass: member.pass,
                 own: member.own,
                 seen: member.seen,
-                mine: member.mine,
+                tally: member.tally,
             }),
             Err(_) => Err(member),
         }
@@ -78,6 +80,7 @@ impl<'a, K: Keeps + Drop> Look<'a, K> {
         ensures member { (monitor : Monitored) → IsLookOf monitor self.entry → IsMemberOf monitor result }
         ensures pass { result.pass ≡ self.entry.pass }
         ensures own { result.own ≡ self.entry.own }
+        ensures tally { result.tally ≡ self.entry.tally }
         ensures draws { draws_made result ≡ self.entry.guard.turn.place.draws }
     {
         let Look {
@@ -85,14 +88,14 @@ impl<'a, K: Keeps + Drop> Look<'a, K> {
             pass,
             own,
             seen,
-            mine,
+            tally,
         } = self;
         Member {
             seat: Some(guard.leave()),
             pass,
             own,
             seen,
-            mine,
+            tally,
         }
     }
 }

@@ -4,11 +4,12 @@ ghost use Rattle.std.specs.Prelude.{◌≡◌, ◌≢◌, Some, IfOk, length};
 ghost use Rattle.epochlog.specs.Epochs.{OneBegins};
 ghost use Rattle.monitor.specs.Making.{IsOfRow, with_made, planned_epoch, HasMade, commits_made, plans_made};
 
+use crate::tally::Tally;
 use epochlog::Pass;
 use refusal::Refusal;
 use state::{Balance, Commit};
 use ticketlock::Seat;
-use tip::{Mine, Seen};
+use tip::Seen;
 
 /// One who asks a monitor and commits to it: a seat at its lock, what it has seen of its row, and which of the row's
 /// epochs it has made. It may move to another thread, and be dropped. Its seat is there between any two calls.
@@ -20,8 +21,8 @@ pub struct Member {
     pub(crate) own: Vec<bool>,
     /// That the monitor's changes were so many as the member has seen.
     pub(crate) seen: Seen,
-    /// How many they are, if it is the only member.
-    pub(crate) mine: Option<Mine>,
+    /// How many of them it has made.
+    pub(crate) tally: Tally,
 }
 
 /// Marks an epoch as made by the member whose marks these are; the row begins after the epoch `first`.

@@ -31,7 +31,8 @@ fn takes_in(pass: &mut Pass, told: &Pass)
 }
 
 impl<K: Keeps + Drop> Monitor<K> {
-    ghost use Rattle.std.specs.Prelude.{◌≡◌, IfOk, OnOk};
+    ghost use Rattle.std.specs.Prelude.{◌≡◌, IfOk, IfErr, OnOk};
+    ghost use Rattle.refusal.specs.declared.refused.Refusal.TheVariants.{SeatSpent};
     ghost use Rattle.epochlog.specs.Epochs.{Begins};
     ghost use Rattle.monitor.specs.Histories.{GoesOn};
     ghost use Rattle.monitor.specs.Members.{IsMemberOf, TakesTurn, StaysAlone};
@@ -64,8 +65,10 @@ impl<K: Keeps + Drop> Monitor<K> {
         requires news { IsNewsOf self.now news.now }
         ensures turn { TakesTurn self.now member.old member.new result }
         ensures goes_on { GoesOn self.now.first member.old.pass.history member.new.pass.history }
+        ensures refused { IfErr result (λ e. e ≡ SeatSpent) }
         ensures hears { OnOk result (Begins news.now.pass.history member.new.pass.history) }
         ensures own { member.new.own ≡ member.old.own }
+        ensures tally { member.new.tally ≡ member.old.tally }
         ensures alone { StaysAlone self.now member.old.pass member.new.pass }
     {
         let shared = self.share(rt, member)?;

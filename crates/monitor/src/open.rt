@@ -1,6 +1,6 @@
 //! How a monitor is opened.
 
-ghost use Rattle.std.specs.Prelude.{◌≡◌, true, false, length, All, IfOk, IfSome, IsSome, IsSomeAnd, None};
+ghost use Rattle.std.specs.Prelude.{◌≡◌, length, All, IfOk};
 ghost use Rattle.ticketlock.specs.Callers.{IsNewOf, first_of, limit_of};
 ghost use Rattle.ticketlock.specs.Errors.{IsWithin};
 ghost use Rattle.monitor.specs.Opening.{can_open, can_open_with, StartsWith};
@@ -8,6 +8,7 @@ ghost use Rattle.monitor.specs.Opening.{can_open, can_open_with, StartsWith};
 use crate::locked::Locked;
 use crate::member::Member;
 use crate::monitor::Monitor;
+use crate::tally::{Tally, tallies};
 use epochlog::{Keeps, MAX_CAPACITY, MAX_FIRST_EPOCH, Nothing, Row};
 use mapparts::Profile;
 use osdmap::OsdMap;
@@ -17,7 +18,7 @@ use std::alloc::Global;
 use std::thread::Threads;
 use ticketlock::limits::{MAX_DRAWS, MAX_SEATS};
 use ticketlock::{Lock, LockError, Seat};
-use tip::{Kept, Mine, Seen, Tip, pair};
+use tip::{Seen, Tip};
 
 /// How much a monitor has room for.
 #[derive(Clone, Copy, Debug, PartialEq, Eq)]
@@ -40,25 +41,11 @@ fn can_open(epoch: u64, limits: Limits) -> bool
         && (1..=MAX_DRAWS).contains(&limits.draws)
 }
 
-/// What the members of a new monitor know of the count of its changes.
+/// What the members of a new monitor know of its changes: the count of all, and their own.
 #[derive(Drop)]
 struct Counting {
     seen: Seen,
-    mine: Option<Mine>,
-}
-
-/// A count that two know, where it is asked for.
-fn twins(asked: bool) -> (Option<Kept>, Option<Mine>)
-    ensures twins { IfSome result.0 (λ t. (t.count ≡ 0) × IsSomeAnd result.1 (λ m. (m.name ≡ t.name) × (m.count ≡ 0))) }
-    ensures asked { asked ≡ true → IsSome result.0 }
-    ensures plain { asked ≡ false → (result.0 ≡ None) × (result.1 ≡ None) }
-{
-    if asked {
-        let (kept, mine) = pair();
-        (Some(kept), Some(mine))
-    } else {
-        (None, None)
-    }
+    tallies: Vec<Tally>,
 }
 
 /// A state under a lock at its beginning, and the seats, where both numbers are within their limits; or `Memory` (30).
@@ -77,9 +64,9 @@ fn lock_state<K: Keeps + Drop>(
     let state = Box::new(alloc, state)?;
     let tip = Tip::new();
     let seen = tip.seen();
-    let (twin, mine) = twins(seats == 1);
-    let counting = Counting { seen, mine };
-    match Lock::with_limit(alloc, Locked { state, tip, twin }, seats, draws) {
+    let (kept, tallies) = tallies(alloc, seats)?;
+    let counting = Counting { seen, tallies };
+    match Lock::with_limit(alloc, Locked { state, tip, kept }, seats, draws) {
         Ok((lock, seats)) => Ok((lock, seats, counting)),
         Err(LockError::Memory) => Err(Memory),
         Err(LockError::BadLimit) => unreachable!(),
@@ -87,25 +74,20 @@ fn lock_state<K: Keeps + Drop>(
 }
 
 impl<K: Keeps + Drop> Monitor<K> {
-    ghost use Rattle.std.specs.Prelude.{◌≡◌, [], true, length, All, IfOk, IsSome, Some, None};
+    ghost use Rattle.std.specs.Prelude.{◌≡◌, ◌+◌, [], true, length, All, IfOk, MatchOption};
     ghost use Rattle.refusal.specs.declared.refused.Refusal.TheVariants.{BadLimit};
     ghost use Rattle.refusal.specs.Outcomes.{refused_unless, Gives};
     ghost use Rattle.ticketlock.specs.Callers.{IsNewAt};
     ghost use Rattle.state.specs.States.{journal};
     ghost use Rattle.monitor.specs.Opening.{can_open_with, IsOpeningWith};
+    ghost use Rattle.monitor.specs.Tallies.{IsNewTallyOf};
     ghost use Rattle.monitor.specs.Members.{IsNewMemberOf, Knows};
 
     /// A member with this seat, who has seen nothing.
     #[tactic(auto, using(crate::proofs::Histories::lawful_none))]
-    fn member(
-        &self,
-        alloc: Global,
-        seat: Seat,
-        seen: Seen,
-        mine: Option<Mine>,
-    ) -> Result<Member, Memory>
+    fn member(&self, alloc: Global, seat: Seat, seen: Seen, tally: Tally) -> Result<Member, Memory>
         requires seat { IsNewAt self.now.words seat }
-        requires knows { Knows self.now seen mine [] }
+        requires knows { Knows self.now seen tally [] }
         ensures { IfOk result (IsNewMemberOf self.now) }
     {
         let pass = self.row.pass(alloc)?;
@@ -115,44 +97,18 @@ impl<K: Keeps + Drop> Monitor<K> {
             pass,
             own,
             seen,
-            mine,
+            tally,
         })
     }
 
-    /// Members with these seats, who have seen nothing, of a monitor without a twin.
-    fn many(&self, alloc: Global, seats: Vec<Seat>, seen: &Seen) -> Result<Vec<Member>, Memory>
-        requires seats { All (IsNewAt self.now.words) seats.items }
-        requires knows { Knows self.now seen.now None [] }
-        ensures { IfOk result (λ members.
-            (length members.items ≡ length seats.items) × All (IsNewMemberOf self.now) members.items) }
+    /// Takes one of the tallies that are left.
+    fn take_tally(&self, tallies: &mut Vec<Tally>) -> Option<Tally>
+        requires { All (IsNewTallyOf self.now.tallies) tallies.old.items }
+        ensures rest { All (IsNewTallyOf self.now.tallies) tallies.new.items }
+        ensures next { MatchOption result (length tallies.old.items ≡ 0) (λ tally.
+            IsNewTallyOf self.now.tallies tally × (length tallies.new.items + 1 ≡ length tallies.old.items)) }
     {
-        let mut members = Vec::with_capacity(alloc, seats.len())?;
-        for seat in seats {
-            members.push(self.member(alloc, seat, seen.again(), None)?)?;
-        }
-        Ok(members)
-    }
-
-    /// The only member, with the only seat, who has seen nothing.
-    fn one(
-        &self,
-        alloc: Global,
-        seats: Vec<Seat>,
-        seen: Seen,
-        mine: Mine,
-    ) -> Result<Vec<Member>, Memory>
-        requires seats { All (IsNewAt self.now.words) seats.items }
-        requires knows { Knows self.now seen (Some mine) [] }
-        requires one { length seats.items ≡ 1 }
-        ensures { IfOk result (λ members. (length members.items ≡ 1) × All (IsNewMemberOf self.now) members.items) }
-    {
-        let mut seats = seats;
-        let Some(seat) = seats.pop() else {
-            unreachable!()
-        };
-        let mut members = Vec::new(alloc);
-        members.push(self.member(alloc, seat, seen, Some(mine))?)?;
-        Ok(members)
+        tallies.pop()
     }
 
     /// Members with these seats, who have seen nothing.
@@ -163,16 +119,22 @@ impl<K: Keeps + Drop> Monitor<K> {
         counting: Counting,
     ) -> Result<Vec<Member>, Memory>
         requires seats { All (IsNewAt self.now.words) seats.items }
-        requires knows { Knows self.now counting.seen counting.mine [] }
-        requires one { IsSome counting.mine → length seats.items ≡ 1 }
+        requires seen { (counting.seen.name ≡ self.now.count) × (counting.seen.count ≡ 0) }
+        requires tallies { All (IsNewTallyOf self.now.tallies) counting.tallies.items }
+        requires many { length counting.tallies.items ≡ length seats.items }
         ensures { IfOk result (λ members.
             (length members.items ≡ length seats.items) × All (IsNewMemberOf self.now) members.items) }
     {
-        let Counting { seen, mine } = counting;
-        match mine {
-            Some(mine) => self.one(alloc, seats, seen, mine),
-            None => self.many(alloc, seats, &seen),
+        let Counting { seen, tallies } = counting;
+        let mut members = Vec::with_capacity(alloc, seats.len())?;
+        let mut left = tallies;
+        for seat in seats {
+            let Some(tally) = self.take_tally(&mut left) else {
+                unreachable!()
+            };
+            members.push(self.member(alloc, seat, seen.again(), tally)?)?;
         }
+        Ok(members)
     }
 
     /// The monitor with these limits, which hold, and its members.
@@ -245,7 +207,8 @@ impl Monitor<Nothing> {
         map: OsdMap,
         limits: Limits,
     ) -> Result<(Monitor<Nothing>, Vec<Member>), Refusal>
-        ensures { Gives result (refused_unless (can_open map.map.epoch limits.journal limits.seats limits.draws) BadLimit)
+        ensures { Gives result
+            (refused_unless (can_open map.map.epoch limits.journal limits.seats limits.draws) BadLimit)
             (λ r. IsOpening map.map limits.journal limits.seats limits.draws Profile.Plain r.0 r.1.items) }
     {
         Monitor::open_stored(rt, alloc, map, limits, Nothing)

@@ -3,7 +3,8 @@
 ghost use Rattle.std.specs.Prelude.{◌≡◌};
 ghost use Rattle.ticketlock.specs.Guards.{first_of_read};
 ghost use Rattle.osdmap.specs.Changes.{after};
-ghost use Rattle.monitor.specs.Members.{Counts, lent, twin_of};
+ghost use Rattle.monitor.specs.Tallies.{names_of};
+ghost use Rattle.monitor.specs.Members.{Counts, lent};
 
 use crate::locked::{Locked, compare, see};
 use crate::member::Member;
@@ -22,7 +23,7 @@ pub(crate) fn locked_of<'g, K: Keeps + Drop>(guard: &'g ReadGuard<'_, Locked<K>>
     ensures row { result.now.state.value.pass.row ≡ (first_of_read guard.now).state.value.pass.row }
     ensures counts { Counts result.now }
     ensures name { result.now.tip.name ≡ (first_of_read guard.now).tip.name }
-    ensures twin { twin_of result.now ≡ twin_of (first_of_read guard.now) }
+    ensures tallies { names_of result.now.kept.items ≡ names_of (first_of_read guard.now).kept.items }
 {
     guard.value()
 }
@@ -63,7 +64,7 @@ impl<K: Keeps + Drop> Monitor<K> {
         match self.lock.wait_read(rt, seat) {
             Ok(guard) => {
                 let locked = locked_of(&guard);
-                compare(locked, &member.seen, &member.mine);
+                compare(locked, &member.seen, &member.tally);
                 see(&mut member.pass, &locked.state);
                 member.seen = locked.tip.seen();
                 Ok(Shared { guard })
@@ -87,7 +88,7 @@ impl<K: Keeps + Drop> Monitor<K> {
         ensures holds { IfOk result (λ guard. Holds self.now guard
             × (guard.value.state.value.first ≡ self.now.first) × (guard.value.state.value.pass ≡ member.new.pass)
             × Counts guard.value × IsCountedBy self.now guard.value) }
-        ensures knows { Knows self.now member.new.seen member.new.mine member.new.pass.history }
+        ensures knows { Knows self.now member.new.seen member.new.tally member.new.pass.history }
     {
         let Some(seat) = member.seat.take() else {
             unreachable!()
@@ -95,7 +96,7 @@ impl<K: Keeps + Drop> Monitor<K> {
         match self.lock.wait_write(rt, seat) {
             Ok(guard) => {
                 let locked = guard.value();
-                compare(locked, &member.seen, &member.mine);
+                compare(locked, &member.seen, &member.tally);
                 see(&mut member.pass, &locked.state);
                 member.seen = locked.tip.seen();
                 Ok(guard)
@@ -121,6 +122,7 @@ impl<K: Keeps + Drop> Monitor<K> {
         ensures member { IsMemberOf self.now member.new }
         ensures pass { member.new.pass ≡ member.old.pass }
         ensures own { member.new.own ≡ member.old.own }
+        ensures tally { member.new.tally ≡ member.old.tally }
         ensures draws { draws_made member.new ≡ shared.entry.guard.turn.place.draws }
     {
         let Shared { guard } = shared;
@@ -146,10 +148,11 @@ impl<K: Keeps + Drop> Monitor<K> {
         requires lawful { IsLawful self.now.first member.old.pass.history }
         requires room { length member.old.own.items ≡ length self.now.row.cells }
         requires counts { Counts guard.value × IsCountedBy self.now guard.value }
-        requires knows { Knows self.now member.old.seen member.old.mine member.old.pass.history }
+        requires knows { Knows self.now member.old.seen member.old.tally member.old.pass.history }
         ensures member { IsMemberOf self.now member.new }
         ensures pass { member.new.pass ≡ member.old.pass }
         ensures own { member.new.own ≡ member.old.own }
+        ensures tally { member.new.tally ≡ member.old.tally }
         ensures draws { draws_made member.new ≡ guard.entry.turn.place.draws }
     {
         member.seat = Some(guard.leave());

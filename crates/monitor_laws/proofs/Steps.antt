@@ -111,7 +111,7 @@ epoch_by_place first (i ∷ journal) zero s lawful e = ap (λ (x : Step). x.epoc
 epoch_by_place first (i ∷ journal) (suc k) s lawful e = omega (arith, lawful.0, epoch_applied first i, epoch_by_place (apply first i) journal k s lawful.2 e)
 
 -- the last of a lawful journal
-last_epoch_by_place : (first : ClusterMap) (before : List Step) (s : Step) → IsLawful first (before ++ s ∷ []) → s.epoch ≡ first.epoch + length before + 1
+pub last_epoch_by_place : (first : ClusterMap) (before : List Step) (s : Step) → IsLawful first (before ++ s ∷ []) → s.epoch ≡ first.epoch + length before + 1
 last_epoch_by_place first before s lawful = omega (arith, epoch_by_place first (before ++ s ∷ []) (length before) s lawful (last-shown before s (length before) refl))
 
 -- a step at the words that is no leaving of a writer leaves the state present where it was

@@ -19,7 +19,7 @@ use Rattle.maptypes.specs.declared.rules.NumberedRule.{NumberedRule}
 use Rattle.refusal.specs.declared.refused.Refusal.{Refusal}
 use Rattle.refusal.specs.declared.refused.Refusal.TheVariants.{BadLimit, BadForest, BadRule, BadPool, BadOsd, BadException}
 use Rattle.osdmap.specs.Maps.{ClusterMap, has_rule, is_kind, is_presence, HoldsTogether}
-use Rattle.mapparts.specs.Parts.{is_between, has_between, bucket_fits, rule_fits, has_few_groups, pool_fits, osd_fits, is_osd_id, pair_fits, exceptions_fit, head_fits, lists_fit, parts_fit}
+use Rattle.mapparts.specs.Parts.{is_between, has_between, bucket_fits, rule_fits, has_few_groups, pool_fits, osd_fits, is_osd_id, pair_fits, exceptions_fit, parts_fit, head_fits_in, lists_fit_in, parts_fit_in}
 use Rattle.maptypes.specs.Values.{pool_of, rule_of}
 use Rattle.maptypes.specs.Pools.{PoolFacts, total_groups, IsWithinLimits}
 use Rattle.keylist.specs.Keys.{is_distinct}
@@ -56,7 +56,7 @@ pub record PartsFit (p : MapParts) : Type 0 where
 
 -- each part of a map that fits is within its limits
 pub parts_fit_each : (p : MapParts) → parts_fit p ≡ true → PartsFit p
-unfolding parts_fit head_fits lists_fit
+unfolding parts_fit_in head_fits_in lists_fit_in
 parts_fit_each p h = record {
   epoch = grind arith;
   max_osd = grind arith;

@@ -20,7 +20,7 @@ use Rattle.maptypes.specs.Exceptions.{key_of, all_named, is_exception, target, s
 use Rattle.keylist.specs.Keys.{is_distinct, entry_at}
 use Rattle.keylist.specs.Order.{IsRising}
 use Rattle.osdmap.specs.Maps.{ClusterMap, osd_exists, HoldsTogether}
-use Rattle.mapparts.specs.Parts.{has_between, exceptions_fit, head_fits, lists_fit, parts_fit}
+use Rattle.mapparts.specs.Parts.{has_between, parts_fit, entries_fit_in, head_fits_in, lists_fit_in, parts_fit_in}
 use Rattle.maptypes.specs.Values.{pool_of}
 use Rattle.maptypes.specs.Pools.{PoolFacts}
 use Rattle.osdmap.specs.Stated.{buckets_of, osd_ok, rules_ok, pools_ok, osds_ok, is_listed, exceptions_ok, explicit_of, items_of, all_exceptions_ok, map_fault, listed_osd, presence_in, IsStated}
@@ -98,7 +98,7 @@ module _ {E : Type 0} (names : E → List ℕ) (sound : List E → Bool) (pools 
 
 -- parts without their exceptions are within the limits where the parts are
 pub bare_fits : (p : MapParts) → parts_fit p ≡ true → parts_fit (without_exceptions p) ≡ true
-unfolding parts_fit head_fits lists_fit exceptions_fit has_between
+unfolding parts_fit_in head_fits_in lists_fit_in entries_fit_in has_between
 bare_fits p h = grind arith
 
 -- and have no wrong exception

@@ -13,8 +13,8 @@ use Rattle.mapparts.specs.declared.parts.OsdPart.{OsdPart}
 use Rattle.maptypes.specs.declared.rules.NumberedRule.{NumberedRule}
 use Rattle.refusal.specs.declared.refused.Refusal.{Refusal}
 use Rattle.refusal.specs.declared.refused.Refusal.TheVariants.{BadLimit, BadForest, BadRule, BadPool, BadOsd, BadException}
-use Rattle.mapparts.specs.Plain.{map_is_plain}
-use Rattle.mapparts.specs.Parts.{parts_fit}
+use Rattle.mapparts.specs.Limits.{plain}
+use Rattle.mapparts.specs.Parts.{parts_fit, parts_fit_in}
 use Rattle.maptypes.specs.Values.{bucket_of, step_of, pool_of, exception_of, pair_of, rule_of}
 use Rattle.maptypes.specs.declared.exception.Exception.{Exception}
 use Rattle.maptypes.specs.declared.exception.Pair.{Pair}
@@ -88,7 +88,7 @@ map_fault p =
 
 -- of a plain cluster's: a limit of those too, else the same
 abbrev pub plain_map_fault : MapParts → Option Refusal
-plain_map_fault p = if not (map_is_plain p) then Some BadLimit else map_fault p
+plain_map_fault p = if not (parts_fit_in plain p) then Some BadLimit else map_fault p
 
 -- ---- the map that parts state
 

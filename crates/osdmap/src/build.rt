@@ -5,10 +5,9 @@ mod osds;
 mod pools;
 
 use crate::map::OsdMap;
-use mapparts::MapParts;
-use mapparts::fits::parts_fit;
+use mapparts::fits::parts_fit_in;
 use mapparts::numbers::word;
-use mapparts::plain::map_is_plain;
+use mapparts::{MapParts, Profile};
 use maptypes::CrushMap;
 use osds::osds_of;
 pub(crate) use pools::has_rule;
@@ -53,10 +52,10 @@ impl OsdMap {
     pub fn new(alloc: Global, parts: MapParts) -> Result<OsdMap, Refusal>
         ensures { Makes result (plain_map_fault parts) (λ m. IsStated parts m.map) }
     {
-        if !map_is_plain(&parts) {
+        if !parts_fit_in(&parts, Profile::Plain) {
             return Err(Refusal::BadLimit);
         }
-        OsdMap::stock(alloc, parts)
+        OsdMap::of_fitting(alloc, parts)
     }
 
     /// The map that parts state.
@@ -69,9 +68,17 @@ impl OsdMap {
     pub fn stock(alloc: Global, parts: MapParts) -> Result<OsdMap, Refusal>
         ensures { Makes result (map_fault parts) (λ m. IsStated parts m.map) }
     {
-        if !parts_fit(&parts) {
+        if !parts_fit_in(&parts, Profile::Stock) {
             return Err(Refusal::BadLimit);
         }
+        OsdMap::of_fitting(alloc, parts)
+    }
+
+    /// The map that parts within the limits state.
+    fn of_fitting(alloc: Global, parts: MapParts) -> Result<OsdMap, Refusal>
+        requires { parts_fit parts ≡ true }
+        ensures { Makes result (map_fault parts) (λ m. IsStated parts m.map) }
+    {
         let bare = OsdMap::without_exceptions(alloc, &parts)?;
         let explicit = bare.exceptions_in(alloc, &parts.pg_upmap)?;
         let items = bare.exceptions_in(alloc, &parts.pg_upmap_items)?;

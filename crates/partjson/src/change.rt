@@ -100,6 +100,7 @@ type New = (
 type Found = (i128, (Entries<i128>, (Entries<GrowPart>, New)));
 
 /// The change of what its fields make.
+#[inline(always)]
 pub(crate) fn change_with(found: Option<Found>) -> Option<RawChange>
     ensures { result ≡ option_map change_with found }
 {

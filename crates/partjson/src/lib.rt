@@ -33,9 +33,10 @@ mod whole;
 mod words;
 
 pub use crate::loads::RawLoad;
-use crate::profile::{change_allowed, map_allowed};
+use crate::profile::{brings_kinds, has_all_kinds};
 use crate::unbased::Unbased;
 use crate::whole::stated_by;
+use json::Scratch;
 use keylist::Entries;
 use mapparts::{MapParts, Profile, RawChange};
 use refusal::Refusal;
@@ -52,11 +53,15 @@ use std::alloc::Global;
 pub fn read_map_parts(alloc: Global, bytes: &[u8], profile: Profile) -> Result<MapParts, Refusal>
     ensures { Answers result (stated_by (map_in profile) bytes.now) }
 {
-    let parts = stated_by(alloc, bytes)?;
-    map_allowed(profile, parts).ok_or(Refusal::BadField)
+    let parts: MapParts = stated_by(alloc, &mut Scratch::new(alloc), bytes)?;
+    if !has_all_kinds(profile, &parts) {
+        return Err(Refusal::BadField);
+    }
+    Ok(parts)
 }
 
-/// The parts of the change that a text states.
+/// The parts of the change that a text states. Whoever reads many keeps the scratch from one to the next, which saves
+/// each the room for its tokens.
 ///
 /// # Errors
 ///
@@ -65,13 +70,17 @@ pub fn read_map_parts(alloc: Global, bytes: &[u8], profile: Profile) -> Result<M
 /// that the profile has not; or `Memory` (30) where there is no memory for it.
 pub fn read_change_parts(
     alloc: Global,
+    scratch: &mut Scratch,
     bytes: &[u8],
     profile: Profile,
 ) -> Result<RawChange, Refusal>
     ensures { Answers result (stated_by (change_in profile) bytes.now) }
 {
-    let parts = stated_by(alloc, bytes)?;
-    change_allowed(profile, parts).ok_or(Refusal::BadField)
+    let parts: RawChange = stated_by(alloc, scratch, bytes)?;
+    if !brings_kinds(profile, &parts.crush) {
+        return Err(Refusal::BadField);
+    }
+    Ok(parts)
 }
 
 /// The parts of the change that a text states without a base: those that it would state with the base 0.
@@ -81,13 +90,17 @@ pub fn read_change_parts(
 /// Those of [`read_change_parts`], but that the base must not be there.
 pub fn read_unbased_parts(
     alloc: Global,
+    scratch: &mut Scratch,
     bytes: &[u8],
     profile: Profile,
 ) -> Result<RawChange, Refusal>
     ensures { Answers result (stated_by (unbased_in profile) bytes.now) }
 {
-    let unbased: Unbased = stated_by(alloc, bytes)?;
-    change_allowed(profile, unbased.change).ok_or(Refusal::BadField)
+    let Unbased { change } = stated_by(alloc, scratch, bytes)?;
+    if !brings_kinds(profile, &change.crush) {
+        return Err(Refusal::BadField);
+    }
+    Ok(change)
 }
 
 /// What OSDs carry as a text states it: a list of lists of an OSD and a number.
@@ -99,5 +112,5 @@ pub fn read_unbased_parts(
 pub fn read_raw_loads(alloc: Global, bytes: &[u8]) -> Result<Entries<RawLoad>, Refusal>
     ensures { Answers result (stated_by stated_loads bytes.now) }
 {
-    stated_by(alloc, bytes)
+    stated_by(alloc, &mut Scratch::new(alloc), bytes)
 }

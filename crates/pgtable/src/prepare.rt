@@ -68,8 +68,8 @@ impl PgTable {
     }
 
     /// All that a change makes of the table of a map that does not refuse it. It tells the evaluations of the change,
-    /// and `rooms` count a rule run for each of them, and no other. Where they are many, the rooms run them side by side,
-    /// in threads.
+    /// and `rooms` count a rule run for each of them, and no other. Where they are many, the rooms run them side by
+    /// side, in threads.
     ///
     /// # Errors
     ///

@@ -1,5 +1,6 @@
 -- What members have seen, joined.
-use Rattle.std.proofs.Common.{◌≡◌, ◌∙◌, ◌+◌, ◌<◌, ◌≤◌, ℕ, suc, Bool, true, false, nat_lt, if◌then◌else◌, List, [], ◌∷◌, length, take, get_or, All, map, cond, count_by, slice_index_or, ◌==◌, inl, inr, arith, refl, sym, ap, subst}
+use Rattle.std.proofs.Common.{◌≡◌, ◌∙◌, ◌+◌, ◌<◌, ◌≤◌, ℕ, suc, Bool, true, false, nat_lt, if◌then◌else◌, Option, Some, None, IfSome, List, [], ◌∷◌, ◌++◌, append_assoc, length, take, get_or, All, map, cond, count_by, slice_index_or, ◌==◌, inl, inr, arith, refl, sym, ap, subst}
+use Rattle.std.specs.Bool.{OnTrue}
 use Rattle.std.proofs.lemmas.Bool.{cases_Bool, eqb-true, ltb-true, ltb-false}
 use Rattle.std.proofs.lemmas.List.{take_all, nil_from_length}
 use Rattle.std.proofs.lemmas.List.Elements.{All-nil, All-cons, All-head, All-tail, All-get_or, All-weaker, All-more}
@@ -9,13 +10,14 @@ use Rattle.epochlog.specs.Epochs.{Seen, Begins, longer}
 use Rattle.monitor.specs.Members.{Monitored, IsMemberOf, IsPassOf}
 use Rattle.monitor.specs.Ends.{IsEndOf}
 use Rattle.monitor.specs.declared.ended.Ended.{Ended}
-use Rattle.session.specs.Sessions.{basis_of, account}
+use Rattle.session.specs.Sessions.{basis_of, IsFollowerOf}
+use Rattle.monitor.specs.Followers.{Followed}
 use Rattle.epochlog.specs.Journals.{Journal}
-use Rattle.server.specs.Players.{IsCountedIn, made_by}
+use Rattle.server.specs.Players.{IsCountedIn, FollowsIn, ReadsRow, made_by}
 use Rattle.server.specs.declared.part.Part.{Part}
 use Rattle.server.specs.declared.left.Left.{Left}
 use Rattle.server.specs.Pairs.{Pairs}
-use Rattle.server.specs.Serving.{LeftFacts, facts_left, seen_left, journal_of, KeepsAll, IsLeftBy, IsLeftIn, AreLeftBy}
+use Rattle.server.specs.Serving.{LeftFacts, facts_left, seen_left, sight_left, journal_of, KeepsAll, IsLeftBy, IsLeftIn, AreLeftBy}
 
 -- what is left of a session begins this history
 abbrev pub BeginsIn : List Step → Left → Type 0
@@ -87,15 +89,50 @@ member_at ended lefts at left within is members =
 
 -- what is left of each session is of the history that was joined
 left_in : (monitor : Monitored) (all : List Step) (number : ℕ) (parts : List Part) (lefts : List Left) → Pairs (IsLeftBy monitor) number parts lefts
-    → All (BeginsIn all) lefts
+    → All (BeginsIn all) lefts → All (FollowsIn all) lefts
     → Pairs (λ n part left. IsLeftIn (basis_of monitor) all n part (facts_left left)) number parts lefts
-left_in monitor all number [] [] pairs begin = tt
-left_in monitor all number [] (left ∷ lefts) pairs begin = absurd pairs
-left_in monitor all number (part ∷ parts) [] pairs begin = absurd pairs
-left_in monitor all number (part ∷ parts) (left ∷ lefts) pairs begin =
+left_in monitor all number [] [] pairs begin follow = tt
+left_in monitor all number [] (left ∷ lefts) pairs begin follow = absurd pairs
+left_in monitor all number (part ∷ parts) [] pairs begin follow = absurd pairs
+left_in monitor all number (part ∷ parts) (left ∷ lefts) pairs begin follow =
     let one : Begins (seen_left left) all = All-head (BeginsIn all) left lefts begin in
+    let two : FollowsIn all left = All-head (FollowsIn all) left lefts follow in
     let others = All-tail (BeginsIn all) left lefts begin in
-    ((account left.member, one, refl, pairs.0.1), left_in monitor all (suc number) parts lefts pairs.1 others)
+    let rest = All-tail (FollowsIn all) left lefts follow in
+    ((sight_left left, one, two, refl, pairs.0.2), left_in monitor all (suc number) parts lefts pairs.1 others rest)
+
+-- the followers that are left read the monitor's row
+reads_row : (monitor : Monitored) (left : Left) (follower : Option Followed) → IsFollowerOf monitor follower → IfSome follower (λ f. f.row ≡ monitor.row)
+reads_row monitor left None follows = tt
+reads_row monitor left (Some f) follows = follows.row
+
+pub rows_left : (monitor : Monitored) (number : ℕ) (parts : List Part) (lefts : List Left) → Pairs (IsLeftBy monitor) number parts lefts
+    → All (ReadsRow monitor.row) lefts
+rows_left monitor number [] [] pairs = All-nil (ReadsRow monitor.row)
+rows_left monitor number [] (left ∷ lefts) pairs = absurd pairs
+rows_left monitor number (part ∷ parts) [] pairs = absurd pairs
+rows_left monitor number (part ∷ parts) (left ∷ lefts) pairs =
+    All-cons (ReadsRow monitor.row) left lefts (reads_row monitor left left.follower pairs.0.1) (rows_left monitor (suc number) parts lefts pairs.1)
+
+-- what follows of what holds where a test does
+pub on_true : (P Q : Type 0) (b : Bool) → (P → Q) → OnTrue b P → OnTrue b Q
+on_true P Q true more p = more p
+on_true P Q false more p = tt
+
+-- a beginning of a beginning
+pub begins_on : {X : Type 0} (xs ys zs : List X) → Begins xs ys → Begins ys zs → Begins xs zs
+begins_on xs ys zs p q = (p.0 ++ q.0, sym (append_assoc xs p.0 q.0) ∙ ap (λ l. l ++ q.0) p.1 ∙ q.1)
+
+-- one more follower begins it, and all do
+pub follow_more : (before after : Seen) (lefts : List Left) (at : ℕ) (left : Left) → at < length lefts → left ≡ get_or lefts at left
+    → after ≡ before → All (FollowsIn before.history) (take at lefts) → FollowsIn after.history left
+    → All (FollowsIn after.history) (take (at + 1) lefts)
+follow_more before after lefts at left within is same so_far here =
+    All-more (FollowsIn after.history) lefts at left within
+    (subst (λ (s : Seen). All (FollowsIn s.history) (take at lefts)) (sym same) so_far) (subst (FollowsIn after.history) is here)
+
+pub all_follow : (all : List Step) (lefts : List Left) (at : ℕ) → length lefts ≤ at → All (FollowsIn all) (take at lefts) → All (FollowsIn all) lefts
+all_follow all lefts at ended follow = subst (All (FollowsIn all)) (take_all at lefts ended) follow
 
 -- one more epoch is made once
 pub made_more : (lefts : List Left) (at k : ℕ) → ((j : ℕ) → j < at → made_by lefts j ≡ 1) → (made_by lefts at == 1) ≡ true → k < at + 1
@@ -117,8 +154,8 @@ made_facts lefts at = sum_by-map (λ (left : LeftFacts). cond (slice_index_or le
 
 -- what is left of sessions, whose members' histories begin one, which the store has kept
 pub all_left : {K : Type 0} (may_leave : K → Journal → Type 0) (monitor : Monitored) (pass : Seen) (parts : List Part) (lefts : List Left)
-    → Pairs (IsLeftBy monitor) 1 parts lefts → IsPassOf monitor pass → All (BeginsIn pass.history) lefts
+    → Pairs (IsLeftBy monitor) 1 parts lefts → IsPassOf monitor pass → All (BeginsIn pass.history) lefts → All (FollowsIn pass.history) lefts
     → KeepsAll may_leave (journal_of monitor.first pass.history) → ((at : ℕ) → at < length pass.history → made_by lefts at ≡ 1)
     → AreLeftBy may_leave monitor parts lefts
-all_left may_leave monitor pass parts lefts by of begin kept once =
-    (pass.history, of.lawful, (λ at inside. made_facts lefts at ∙ once at inside), kept, left_in monitor pass.history 1 parts lefts by begin)
+all_left may_leave monitor pass parts lefts by of begin follow kept once =
+    (pass.history, of.lawful, (λ at inside. made_facts lefts at ∙ once at inside), kept, left_in monitor pass.history 1 parts lefts by begin follow)

@@ -3,4 +3,5 @@ mod Opened
 mod Paired
 mod Outs
 mod Played
+mod Answered
 mod Put

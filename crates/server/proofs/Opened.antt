@@ -1,8 +1,8 @@
 -- What a monitor is opened with.
 use Rattle.std.proofs.Common.{◌≡◌, ◌∙◌, ℕ, ◌≤◌, ◌^◌, true, false, not, if◌then◌else◌, Bool, List, Some, None, IfOk, Result, Ok, Err, refl, sym, arith}
 use Rattle.mapparts.specs.declared.parts.MapParts.{MapParts}
-use Rattle.mapparts.specs.Parts.{parts_fit}
-use Rattle.mapparts.specs.Plain.{map_is_plain}
+use Rattle.mapparts.specs.Parts.{parts_fit, parts_fit_in}
+use Rattle.mapparts.specs.Limits.{plain}
 use Rattle.mapparts.proofs.Within.{natural_between}
 use Rattle.refusal.specs.declared.refused.Refusal.{Refusal}
 use Rattle.refusal.specs.declared.refused.Refusal.TheVariants.{BadLimit}
@@ -18,7 +18,7 @@ use Rattle.monitor.specs.Opening.{can_open}
 
 -- parts with no fault by the limits of plain clusters have none
 no_plain_fault : (p : MapParts) → plain_map_fault p ≡ None → map_fault p ≡ None
-no_plain_fault p none = go (map_is_plain p) none
+no_plain_fault p none = go (parts_fit_in plain p) none
   where
     go : (b : Bool) → (if not b then Some BadLimit else map_fault p) ≡ None → map_fault p ≡ None
     go true none = none

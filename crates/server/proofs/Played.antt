@@ -13,7 +13,7 @@ use Rattle.monitor.specs.declared.member.Member.{Member}
 use Rattle.monitor.specs.Opening.{can_open, max_draws, IsOpening}
 use Rattle.epochlog.specs.Journals.{Journal}
 use Rattle.session.specs.declared.error.SessionError.{SessionError}
-use Rattle.session.specs.Answers.{Account, Sight}
+use Rattle.session.specs.Answers.{Sight}
 use Rattle.session.specs.Commands.{lines_in}
 use Rattle.session.specs.Sessions.{session_of, basis_of}
 use Rattle.session.specs.Transcripts.{IsTranscript}
@@ -123,10 +123,10 @@ pub started_for : {T K : Type 0} (monitor : Monitored) (number : ℕ) (player : 
 started_for monitor number player part same numbered played = (same, numbered, played)
 
 -- what a live session has put is its heading and its answers
-pub told_live : (monitor : Monitored) (number : ℕ) (seen : Sight) (ends : Account) (old mid after : List ℕ) (known : Option (List ℕ))
+pub told_live : (monitor : Monitored) (number : ℕ) (seen : Sight) (ends : Sight) (old mid after : List ℕ) (known : Option (List ℕ))
     (r : Result Unit SessionError) → seen ≡ unseen (length monitor.row.cells) → mid ≡ old ++ heading number
     → OnOk r ((read : List ℕ) × (bytes : List ℕ) × (last : Sight) × IfSome known (λ xs. xs ≡ read)
-    × IsTranscript (session_of monitor lets_all) 1 seen (lines_in read) bytes last × (last.member ≡ ends) × (after ≡ mid ++ bytes))
+    × IsTranscript (session_of monitor lets_all) 1 seen (lines_in read) bytes last × (last ≡ ends) × (after ≡ mid ++ bytes))
     → OnOk r ((read : List ℕ) × (text : List ℕ) × IfSome known (λ xs. xs ≡ read) × IsTextBy monitor number read text ends
     × (after ≡ old ++ text))
 told_live monitor number seen ends old mid after known (Ok done) same out (read, bytes, last, all, told, is, put) = (

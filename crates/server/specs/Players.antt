@@ -1,16 +1,20 @@
 -- Threads that play sessions.
-use Rattle.std.specs.Prelude.{◌≡◌, ℕ, false, List, [], count_by, slice_index_or}
+use Rattle.std.specs.Prelude.{◌≡◌, ℕ, false, List, [], None, IfSome, count_by, slice_index_or}
 use Rattle.std.specs.declared.thread.PromisedHandle.{PromisedHandle}
-use Rattle.monitor.specs.Members.{Monitored, IsPassOf}
+use Rattle.maptypes.specs.Incrementals.{Step}
+use Rattle.monitor.specs.Members.{Monitored, IsPassOf, IsMemberOf, IsNewMemberOf}
 use Rattle.monitor.specs.Ends.{IsCounted}
 use Rattle.monitor.specs.declared.ended.Ended.{Ended}
 use Rattle.monitor.specs.declared.member.Member.{Member}
 use Rattle.server.specs.declared.part.Part.{Part}
 use Rattle.server.specs.declared.left.Left.{Left}
 use Rattle.server.specs.declared.left.LeftOf.{LeftOf}
-use Rattle.epochlog.specs.Epochs.{Seen}
+use Rattle.epochlog.specs.Epochs.{Line, Seen, Begins}
+use Rattle.session.specs.Answers.{Sight}
+use Rattle.session.specs.Sessions.{sight_by, IsFollowerOf}
 use Rattle.server.specs.Pairs.{Pairs}
-use Rattle.server.specs.Serving.{IsLeftBy}
+use Rattle.server.specs.declared.left.Asker.{Asker}
+use Rattle.server.specs.Serving.{IsLeftBy, followed_left}
 
 -- a thread that was started for a part, by its number
 abbrev pub IsStartedFor : {T K : Type 0} → Monitored → ℕ → PromisedHandle T (LeftOf K) → Part → Type 0
@@ -36,3 +40,23 @@ pub record IsLeftAt (monitor : Monitored) (parts : List Part) (lefts : List Left
 pub record IsCountedIn {K : Type 0} (ended : Ended K) (member : Member) : Type 0 where
   pub row : member.pass.row ≡ ended.state.value.pass.row
   pub counted : IsCounted ended member
+
+-- who plays a session at a monitor: its member and its follower are the monitor's
+abbrev pub IsAskerOf : Monitored → Asker → Type 0
+IsAskerOf monitor asker = IsMemberOf monitor asker.member × IsFollowerOf monitor asker.follower
+
+-- one who has seen nothing, and has no follower
+abbrev pub IsNewAskerOf : Monitored → Asker → Type 0
+IsNewAskerOf monitor asker = IsNewMemberOf monitor asker.member × (asker.follower ≡ None)
+
+-- what it has seen
+abbrev pub sight_of : Asker → Sight
+sight_of asker = sight_by asker.member asker.follower
+
+-- what is left of a session, whose follower begins this history
+abbrev pub FollowsIn : List Step → Left → Type 0
+FollowsIn all left = Begins (followed_left left) all
+
+-- the follower that is left reads this row
+abbrev pub ReadsRow : Line → Left → Type 0
+ReadsRow row left = IfSome left.follower (λ f. f.row ≡ row)

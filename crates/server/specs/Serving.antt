@@ -11,8 +11,8 @@ use Rattle.mapparts.specs.declared.profile.Profile.{Profile}
 use Rattle.mapjson.specs.MapTexts.{map_text_fault, StatesMap}
 use Rattle.monitor.specs.Members.{Monitored, IsMemberOf}
 use Rattle.session.specs.Commands.{lines_in}
-use Rattle.session.specs.Answers.{Basis, Account, Sight, session_by}
-use Rattle.session.specs.Sessions.{basis_of, account}
+use Rattle.session.specs.Answers.{Basis, Sight, session_by}
+use Rattle.session.specs.Sessions.{basis_of, sight_by, track_of, IsFollowerOf}
 use Rattle.monitor.specs.Opening.{can_open, max_draws}
 use Rattle.refusal.specs.declared.refused.Refusal.TheVariants.{BadLimit}
 use Rattle.session.specs.Transcripts.{IsTranscript}
@@ -53,16 +53,16 @@ unseen most = record {
   follower = record { history = []; seen = []; runs = 0 };
 }
 
--- the text of the session of a number: its heading, and the answers of its script, which go by these; the last of them
--- leaves its member with this
-abbrev pub IsSessionText : Basis → ℕ → List ℕ → List ℕ → Account → Type 0
+-- the text of the session of a number: its heading, and the answers of its script, which go by these; behind the last
+-- of them the session has seen this
+abbrev pub IsSessionText : Basis → ℕ → List ℕ → List ℕ → Sight → Type 0
 IsSessionText basis number script text end =
     (answers : List ℕ) × (last : Sight)
     × IsTranscript (session_by basis lets_all) 1 (unseen basis.most) (lines_in script) answers last
-    × (last.member ≡ end) × (text ≡ heading number ++ answers)
+    × (last ≡ end) × (text ≡ heading number ++ answers)
 
 -- the text of the session of a number at this monitor
-abbrev pub IsTextBy : Monitored → ℕ → List ℕ → List ℕ → Account → Type 0
+abbrev pub IsTextBy : Monitored → ℕ → List ℕ → List ℕ → Sight → Type 0
 IsTextBy monitor number script text end = IsSessionText (basis_of monitor) number script text end
 
 -- what is left of a session that has ended: what is to be put out, whether a file of it has failed, which it told, and
@@ -72,12 +72,23 @@ pub record LeftFacts : Type 0 where
   pub told : Bool
   pub own : List Bool
 
+-- some lines were answered to a session from nothing seen on; behind the last of them it has seen this
+abbrev pub HasAnswered : Basis → Sight → Type 0
+HasAnswered basis end =
+    (lines : List (List ℕ)) × (answers : List ℕ) × (last : Sight)
+    × IsTranscript (session_by basis lets_all) 1 (unseen basis.most) lines answers last × (last ≡ end)
+
+-- the same at this monitor
+abbrev pub HasAnsweredBy : Monitored → Sight → Type 0
+HasAnsweredBy monitor end = HasAnswered (basis_of monitor) end
+
 -- what is left of the session of a part: the text of a script, which has no file that can fail; of a live session no
--- text, as its answers are out
-abbrev pub IsLeftOf : Basis → ℕ → Part → LeftFacts → Account → Type 0
+-- text, as its answers are out, but its lines were answered as those of a script are, up to one whose answer may be cut
+-- off where a file has failed
+abbrev pub IsLeftOf : Basis → ℕ → Part → LeftFacts → Sight → Type 0
 IsLeftOf basis number (Script script) left end =
     IsSessionText basis number script.items left.text end × (left.told ≡ false)
-IsLeftOf basis number (Live streams) left end = left.text ≡ []
+IsLeftOf basis number (Live streams) left end = (left.text ≡ []) × HasAnswered basis end
 
 -- what is to be put out of what is left
 abbrev pub text_left : Left → List ℕ
@@ -91,18 +102,27 @@ facts_left left = record { text = text_left left; told = left.has_told; own = le
 abbrev pub seen_left : Left → List Step
 seen_left left = left.member.pass.history
 
--- what is left of the session of a part at this monitor, and its member
+-- what its follower has read and applied, which is nothing where there is none
+abbrev pub followed_left : Left → List Step
+followed_left left = (track_of left.follower).history
+
+-- what a session has seen that is left, by its member and its follower
+abbrev pub sight_left : Left → Sight
+sight_left left = sight_by left.member left.follower
+
+-- what is left of the session of a part at this monitor, its member and its follower
 abbrev pub IsLeftBy : Monitored → ℕ → Part → Left → Type 0
 IsLeftBy monitor number part left =
-    IsMemberOf monitor left.member
-    × IsLeftOf (basis_of monitor) number part (facts_left left) (account left.member)
+    IsMemberOf monitor left.member × IsFollowerOf monitor left.follower
+    × IsLeftOf (basis_of monitor) number part (facts_left left) (sight_left left)
 
 -- ---- all sessions
 
--- what is left of a session whose last history begins this one
+-- what is left of a session; what its member and its follower have seen in the end begins this history
 abbrev pub IsLeftIn : Basis → List Step → ℕ → Part → LeftFacts → Type 0
 IsLeftIn basis all number part left =
-    (end : Account) × Begins end.history all × (end.own ≡ left.own) × IsLeftOf basis number part left end
+    (end : Sight) × Begins end.member.history all × Begins end.follower.history all × (end.member.own ≡ left.own)
+    × IsLeftOf basis number part left end
 
 -- each epoch of a history is one that exactly one session has made
 abbrev pub AreMadeOnce : List Step → List LeftFacts → Type 0

@@ -1,7 +1,7 @@
 //! What is left of a session that has ended, and what its thread promises of it.
 use crate::part::Part;
 use epochlog::Keeps;
-use monitor::{Member, Monitor};
+use monitor::{Follower, Member, Monitor};
 use refusal::Memory;
 use session::Buffer;
 use std::thread::Promise;
@@ -13,6 +13,8 @@ pub struct Left {
     pub text: Buffer,
     /// Its member, with what it has seen.
     pub member: Member,
+    /// Its follower, where it has had one.
+    pub follower: Option<Follower>,
     /// Whether one of its files has failed, which its thread has told.
     pub has_told: bool,
 }
@@ -26,6 +28,15 @@ impl Left {
     {
         self.member.own().get(at).is_some_and(|made| *made)
     }
+}
+
+/// Who plays a session: its member, and its follower once a line has needed one.
+#[derive(Drop)]
+pub struct Asker {
+    /// The member.
+    pub member: Member,
+    /// The follower.
+    pub follower: Option<Follower>,
 }
 
 /// A session, and what its thread promises: what is left to put out of it, and its member, unless memory was short.

@@ -6,7 +6,7 @@ ghost use Rattle.epochlog.specs.Epochs.{Begins};
 ghost use Rattle.monitor.specs.Members.{IsMemberOf, IsNewMemberOf, IsPassOf};
 ghost use Rattle.server.specs.Pairs.{Pairs};
 ghost use Rattle.server.specs.Serving.{journal_of, seen_left, KeepsAll, IsLeftBy, AreLeftBy};
-ghost use Rattle.server.specs.Players.{IsStartedFor, KeepsPromise, IsLeftAt, IsCountedIn, made_by};
+ghost use Rattle.server.specs.Players.{IsStartedFor, KeepsPromise, IsLeftAt, IsCountedIn, FollowsIn, ReadsRow, made_by};
 
 use crate::fault::Unplayed;
 use crate::left::{Left, LeftOf};
@@ -138,6 +138,42 @@ fn join_seen<K: Keeps + Drop>(all: &mut Pass, ended: &Ended<K>, lefts: &[Left])
     }
 }
 
+/// Whether the follower of a session has read no more than a pass has seen; then what it has read begins that. It has,
+/// where the monitor has ended and nobody else has sealed.
+fn is_followed(all: &mut Pass, left: &Left) -> bool
+    requires { ReadsRow all.old.row left.now }
+    ensures same { OnTrue result (all.new ≡ all.old) }
+    ensures row { all.new.row ≡ all.old.row }
+    ensures begins { OnTrue result (FollowsIn all.new.history left.now) }
+{
+    match &left.follower {
+        None => true,
+        Some(follower) => {
+            let pass = follower.pass();
+            if all.epoch() < pass.epoch() {
+                return false;
+            }
+            all.join(pass);
+            true
+        }
+    }
+}
+
+/// Whether each of those that are left has read no more than a pass has seen.
+fn are_followed(all: &mut Pass, lefts: &[Left]) -> bool
+    requires { All (ReadsRow all.old.row) lefts.now }
+    ensures same { OnTrue result (all.new ≡ all.old) }
+    ensures row { all.new.row ≡ all.old.row }
+    ensures begin { OnTrue result (All (FollowsIn all.new.history) lefts.now) }
+{
+    for left in lefts {
+        if !is_followed(all, left) {
+            return false;
+        }
+    }
+    true
+}
+
 /// Whether exactly one member of those that are left has made the epoch at a place of the row.
 fn is_made_once(lefts: &[Left], at: usize) -> bool
     ensures { result ≡ (made_by lefts.now at == 1) }
@@ -161,14 +197,16 @@ fn are_made_once(all: &Pass, first: u64, lefts: &[Left]) -> bool
 }
 
 /// Ends a monitor, and joins what its state has seen to a pass that has seen nothing: what each member has seen that is
-/// left begins that, and whatever a crash leaves of the store is all of it, and at most one change more. `false` only
-/// where [`Monitor::end`] is `None`.
+/// left begins that, and what each follower has read; and whatever a crash leaves of the store is all of it, and at
+/// most one change more. `false` only where [`Monitor::end`] is `None`, or a follower has read what nobody has made.
 fn join_state<K: Keeps + Drop>(monitor: Monitor<K>, all: &mut Pass, lefts: &[Left]) -> bool
     requires pass { IsPassOf monitor all.old }
     requires none { all.old.history ≡ [] }
     requires members { All (λ left. IsMemberOf monitor left.member) lefts.now }
-    ensures pass { IsPassOf monitor all.new }
+    requires followers { All (ReadsRow monitor.row) lefts.now }
+    ensures pass { OnTrue result (IsPassOf monitor all.new) }
     ensures begin { OnTrue result (All (λ left. Begins (seen_left left) all.new.history) lefts.now) }
+    ensures follow { OnTrue result (All (FollowsIn all.new.history) lefts.now) }
     ensures kept { OnTrue result (KeepsAll K.may_leave (journal_of monitor.first all.new.history)) }
 {
     let Some(ended) = monitor.end() else {
@@ -179,7 +217,7 @@ fn join_state<K: Keeps + Drop>(monitor: Monitor<K>, all: &mut Pass, lefts: &[Lef
     join_seen(all, &ended, lefts);
     let _ = state.store();
     let _ = state.map();
-    true
+    are_followed(all, lefts)
 }
 
 /// What is left of the sessions of these parts, in their order, each played by a thread of its own, for which it takes

@@ -1,13 +1,13 @@
 //! What the thread of a session plays.
 ghost use Rattle.std.specs.Prelude.{◌≡◌, ◌≢◌, ◌++◌, ℕ, List, false, OnOk, IfOk, IfErr, IfSome};
-ghost use Rattle.monitor.specs.Members.{IsMemberOf, IsNewMemberOf};
+ghost use Rattle.monitor.specs.Members.{IsNewMemberOf};
 ghost use Rattle.session.specs.Buffers.{bytes_of, is_short};
 ghost use Rattle.session.specs.Ends.{has_sink_failed};
-ghost use Rattle.session.specs.Sessions.{account};
-ghost use Rattle.server.specs.Serving.{heading, IsTextBy, IsLeftBy};
+ghost use Rattle.server.specs.Players.{IsAskerOf, IsNewAskerOf, sight_of};
+ghost use Rattle.server.specs.Serving.{heading, HasAnsweredBy, IsTextBy, IsLeftBy};
 
 use crate::failure::Failure;
-use crate::left::Left;
+use crate::left::{Asker, Left};
 use crate::out::Out;
 use crate::part::{Part, Source, Streams, Target};
 use crate::until::Until;
@@ -44,17 +44,17 @@ fn begin_text(alloc: Global, number: usize) -> Option<Buffer>
 /// The text of the session of a script: its heading and its answers. The one error is that memory is short.
 fn play_script<R: Wait + Threads + Sync, K: Keeps + Drop>(
     desk: &Desk<'_, R, Open, K>,
-    member: &mut Member,
+    asker: &mut Asker,
     number: usize,
     script: &[u8],
 ) -> Option<Buffer>
-    requires { IsNewMemberOf desk.now.monitor.now member.old }
-    ensures member { IsMemberOf desk.now.monitor.now member.new }
+    requires { IsNewAskerOf desk.now.monitor.now asker.old }
+    ensures asker { IsAskerOf desk.now.monitor.now asker.new }
     ensures text { IfSome result (λ text.
-        IsTextBy desk.now.monitor.now number script.now (bytes_of text) (account member.new)) }
+        IsTextBy desk.now.monitor.now number script.now (bytes_of text) (sight_of asker.new)) }
 {
     let mut text = begin_text(desk.alloc, number)?;
-    match desk.run(member, script, &mut text) {
+    match desk.run(&mut asker.member, &mut asker.follower, script, &mut text) {
         Ok(()) => Some(text),
         Err(SessionError::Write | SessionError::Memory) => None,
         Err(SessionError::Held | SessionError::Read) => unreachable!(),
@@ -65,43 +65,45 @@ fn play_script<R: Wait + Threads + Sync, K: Keeps + Drop>(
 /// and at its end.
 fn play_lines<R: Wait + Threads + Sync, B: Read, W: Sink, K: Keeps + Drop>(
     desk: &Desk<'_, R, Open, K>,
-    member: &mut Member,
+    asker: &mut Asker,
     number: usize,
     reader: &mut B,
     out: &mut W,
 ) -> Result<(), SessionError>
-    requires member { IsNewMemberOf desk.now.monitor.now member.old }
+    requires asker { IsNewAskerOf desk.now.monitor.now asker.old }
     requires unfailed { W.has_failed out.old ≡ false }
-    ensures member { IsMemberOf desk.now.monitor.now member.new }
+    ensures asker { IsAskerOf desk.now.monitor.now asker.new }
     ensures held { IfErr result (λ e. e ≢ SessionError.Held) }
     ensures out { OnOk result (W.holds_back out.new ≡ false) }
     ensures failed { W.has_failed out.new ≡ has_sink_failed result }
     ensures ok { OnOk result ((read : List ℕ) × (text : List ℕ)
         × IfSome (B.remaining reader.old) (λ xs. xs ≡ read)
-        × IsTextBy desk.now.monitor.now number read text (account member.new)
+        × IsTextBy desk.now.monitor.now number read text (sight_of asker.new)
         × (W.written out.new ≡ W.written out.old ++ text)) }
+    ensures answered { HasAnsweredBy desk.now.monitor.now (sight_of asker.new) }
 {
     let Some(text) = begin_text(desk.alloc, number) else {
         return Err(SessionError::Memory);
     };
     write_whole(out, text.bytes())?;
-    desk.run_from(member, reader, out)
+    desk.run_from(&mut asker.member, &mut asker.follower, reader, out)
 }
 
 /// Plays the session of a reader's lines, its answers to a writer.
 fn play_to_writer<R: Wait + Threads + Sync, B: Read, W: io::Write + Drop, K: Keeps + Drop>(
     desk: &Desk<'_, R, Open, K>,
-    member: &mut Member,
+    asker: &mut Asker,
     number: usize,
     reader: &mut B,
     to: W,
 ) -> Result<(), SessionError>
-    requires { IsNewMemberOf desk.now.monitor.now member.old }
-    ensures member { IsMemberOf desk.now.monitor.now member.new }
+    requires { IsNewAskerOf desk.now.monitor.now asker.old }
+    ensures asker { IsAskerOf desk.now.monitor.now asker.new }
     ensures held { IfErr result (λ e. e ≢ SessionError.Held) }
+    ensures answered { HasAnsweredBy desk.now.monitor.now (sight_of asker.new) }
 {
     let mut out = Out::new(desk.alloc, to);
-    match play_lines(desk, member, number, reader, &mut out) {
+    match play_lines(desk, asker, number, reader, &mut out) {
         Err(SessionError::Write) if out.is_short() => Err(SessionError::Memory),
         done => done,
     }
@@ -121,19 +123,20 @@ fn open_failure(error: &io::Error, otherwise: SessionError) -> SessionError
 /// Plays the session of a reader's lines; a file for its answers is made, or emptied.
 fn play_to_target<R: Wait + Threads + Sync, B: Read, K: Keeps + Drop>(
     stage: &Stage<'_, R, K>,
-    member: &mut Member,
+    asker: &mut Asker,
     number: usize,
     reader: &mut B,
     target: &Target,
 ) -> Result<(), SessionError>
-    requires { IsNewMemberOf stage.now.desk.monitor.now member.old }
-    ensures member { IsMemberOf stage.now.desk.monitor.now member.new }
+    requires { IsNewAskerOf stage.now.desk.monitor.now asker.old }
+    ensures asker { IsAskerOf stage.now.desk.monitor.now asker.new }
     ensures held { IfErr result (λ e. e ≢ SessionError.Held) }
+    ensures answered { HasAnsweredBy stage.now.desk.monitor.now (sight_of asker.new) }
 {
     match target {
-        Target::Standard(output) => play_to_writer(&stage.desk, member, number, reader, *output),
+        Target::Standard(output) => play_to_writer(&stage.desk, asker, number, reader, *output),
         Target::File(path) => match fs::create(stage.host, path.as_str()) {
-            Ok(file) => play_to_writer(&stage.desk, member, number, reader, file),
+            Ok(file) => play_to_writer(&stage.desk, asker, number, reader, file),
             Err(error) => Err(open_failure(&error, SessionError::Write)),
         },
     }
@@ -142,23 +145,24 @@ fn play_to_target<R: Wait + Threads + Sync, B: Read, K: Keeps + Drop>(
 /// Plays a live session: opens the file of its lines first, then that of its answers.
 fn play_streams<R: Wait + Threads + Sync, K: Keeps + Drop>(
     stage: &Stage<'_, R, K>,
-    member: &mut Member,
+    asker: &mut Asker,
     number: usize,
     streams: &Streams,
 ) -> Result<(), SessionError>
-    requires { IsNewMemberOf stage.now.desk.monitor.now member.old }
-    ensures member { IsMemberOf stage.now.desk.monitor.now member.new }
+    requires { IsNewAskerOf stage.now.desk.monitor.now asker.old }
+    ensures asker { IsAskerOf stage.now.desk.monitor.now asker.new }
     ensures held { IfErr result (λ e. e ≢ SessionError.Held) }
+    ensures answered { HasAnsweredBy stage.now.desk.monitor.now (sight_of asker.new) }
 {
     match &streams.source {
         Source::Standard(input) => {
             let mut reader = Until::new(*input, streams);
-            play_to_target(stage, member, number, &mut reader, &streams.target)
+            play_to_target(stage, asker, number, &mut reader, &streams.target)
         }
         Source::File(path) => match fs::open(stage.host, path.as_str()) {
             Ok(file) => {
                 let mut reader = Until::new(file, streams);
-                play_to_target(stage, member, number, &mut reader, &streams.target)
+                play_to_target(stage, asker, number, &mut reader, &streams.target)
             }
             Err(error) => Err(open_failure(&error, SessionError::Read)),
         },
@@ -173,14 +177,15 @@ fn tell(rt: &impl Eprint, failure: Failure<'_>) {
 /// Plays a live session: whether one of its files has failed, which is told. The one error is that memory is short.
 fn play_live<R: Wait + Threads + Eprint + Sync, K: Keeps + Drop>(
     stage: &Stage<'_, R, K>,
-    member: &mut Member,
+    asker: &mut Asker,
     number: usize,
     streams: &Streams,
 ) -> Result<bool, Memory>
-    requires { IsNewMemberOf stage.now.desk.monitor.now member.old }
-    ensures { IsMemberOf stage.now.desk.monitor.now member.new }
+    requires { IsNewAskerOf stage.now.desk.monitor.now asker.old }
+    ensures asker { IsAskerOf stage.now.desk.monitor.now asker.new }
+    ensures answered { HasAnsweredBy stage.now.desk.monitor.now (sight_of asker.new) }
 {
-    match play_streams(stage, member, number, streams) {
+    match play_streams(stage, asker, number, streams) {
         Ok(()) => return Ok(false),
         Err(SessionError::Read) => tell(stage.desk.rt, streams.source.failure()),
         Err(SessionError::Write) => tell(stage.desk.rt, streams.target.failure()),
@@ -200,23 +205,25 @@ pub fn play<R: Wait + Threads + Eprint + Sync, K: Keeps + Drop>(
     requires { IsNewMemberOf stage.now.desk.monitor.now member }
     ensures { IfOk result (IsLeftBy stage.now.desk.monitor.now number part.now) }
 {
-    let mut member = member;
-    match part {
+    let mut asker = Asker {
+        member,
+        follower: None,
+    };
+    let (text, has_told) = match part {
         Part::Script(script) => {
-            let text = play_script(&stage.desk, &mut member, number, script).ok_or(Memory)?;
-            Ok(Left {
-                text,
-                member,
-                has_told: false,
-            })
+            let text = play_script(&stage.desk, &mut asker, number, script).ok_or(Memory)?;
+            (text, false)
         }
         Part::Live(streams) => {
-            let has_told = play_live(stage, &mut member, number, streams)?;
-            Ok(Left {
-                text: Buffer::new(stage.desk.alloc),
-                member,
-                has_told,
-            })
+            let has_told = play_live(stage, &mut asker, number, streams)?;
+            (Buffer::new(stage.desk.alloc), has_told)
         }
-    }
+    };
+    let Asker { member, follower } = asker;
+    Ok(Left {
+        text,
+        member,
+        follower,
+        has_told,
+    })
 }

@@ -1,5 +1,5 @@
 mod LinesIn
-mod Transcribed
+pub mod Transcribed
 mod Replies
 mod Histories
 mod Told
@@ -11,3 +11,4 @@ mod Firsts
 mod Alone
 mod Fresh
 mod Spending
+pub mod Follows

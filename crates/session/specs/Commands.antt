@@ -75,9 +75,9 @@ pub record Beside : Type 0 where
   pub loads : List ℕ
 
 -- what a line asks for: a question to the monitor; the up sets of all groups of a pool; a change that a JSON text
--- states, with its base or without; to wait until the epoch is at least a number; to balance a pool, by so many moves at
--- most, with what is to be counted beside it; a task of the session's follower; or the sets of a pool's groups from the
--- follower
+-- states, with its base or without; to wait until the epoch is at least a number; to balance a pool, by so many moves
+-- at most, with what is to be counted beside it; a task of the session's follower; or the sets of a pool's groups from
+-- the follower
 pub data Command : Type 0 where
   ask : Question → Command
   ups : ℕ → Command

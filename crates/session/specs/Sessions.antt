@@ -125,27 +125,27 @@ text_from first = whole_text first.line.now first.rest.now
 
 -- ---- sessions
 
--- a script is played whole, of a session that has seen the first; its member ends with this
-abbrev pub IsPlayed : Manner Sight → Sight → List ℕ → Account → List ℕ → List ℕ → Type 0
+-- a script is played whole, of a session that has seen the first; what it has seen in the end is this
+abbrev pub IsPlayed : Manner Sight → Sight → List ℕ → Sight → List ℕ → List ℕ → Type 0
 IsPlayed m first script end before after =
     (bytes : List ℕ) × (last : Sight) × IsTranscript m 1 first (lines_in script) bytes last
-    × (last.member ≡ end) × (after ≡ before ++ bytes)
+    × (last ≡ end) × (after ≡ before ++ bytes)
 
 -- a script is played up to where the session stops, by its error
-abbrev pub IsStopped : Manner Sight → Sight → List ℕ → Account → List ℕ → List ℕ → SessionError → Type 0
+abbrev pub IsStopped : Manner Sight → Sight → List ℕ → Sight → List ℕ → List ℕ → SessionError → Type 0
 IsStopped m first script end before after error =
     (out : List ℕ) × (last : Sight) × Stops m (Halts m error) first (lines_in script) out last
-    × (last.member ≡ end) × (after ≡ before ++ out)
+    × (last ≡ end) × (after ≡ before ++ out)
 
 -- the lines of a reader are played to its end, which were all that it had left, as far as that is known
-abbrev pub IsReadOut : Manner Sight → Option (List ℕ) → Sight → Account → List ℕ → List ℕ → Type 0
+abbrev pub IsReadOut : Manner Sight → Option (List ℕ) → Sight → Sight → List ℕ → List ℕ → Type 0
 IsReadOut m known first end before after =
     (read : List ℕ) × (bytes : List ℕ) × (last : Sight) × IfSome known (λ xs. xs ≡ read)
-    × IsTranscript m 1 first (lines_in read) bytes last × (last.member ≡ end) × (after ≡ before ++ bytes)
+    × IsTranscript m 1 first (lines_in read) bytes last × (last ≡ end) × (after ≡ before ++ bytes)
 
 -- the lines of a reader are played up to where the session stops, by its error
-abbrev pub IsCutShort : Manner Sight → Option (List ℕ) → Option (List ℕ) → Sight → Account → List ℕ → List ℕ
+abbrev pub IsCutShort : Manner Sight → Option (List ℕ) → Option (List ℕ) → Sight → Sight → List ℕ → List ℕ
     → SessionError → Type 0
 IsCutShort m known left first end before after error =
     (out : List ℕ) × (last : Sight) × StopsReading m known left error first out last
-    × (last.member ≡ end) × (after ≡ before ++ out)
+    × (last ≡ end) × (after ≡ before ++ out)

@@ -2,6 +2,8 @@
 use Rattle.std.specs.Prelude.{ℕ, List, [], ◌∷◌, ◌++◌, codes, Option, Result, Ok, Err}
 use Rattle.std.specs.Fmt.{decimal}
 use Rattle.maptypes.specs.declared.pg.Pg.{Pg}
+use Rattle.upmap_cleanup.specs.declared.cause.Cause.{Cause}
+use Rattle.upmap_cleanup.specs.declared.cause.Cause.TheVariants.{Crowded, Spread, Outside, Unreached, Out, IdleSet, SetLength, IdlePairs}
 use Rattle.upmap_cleanup.specs.declared.kept.Remnant.{Remnant}
 use Rattle.upmap_cleanup.specs.declared.kept.Remnant.TheVariants.{All, Fewer, Gone}
 use Rattle.refusal.specs.declared.refused.Refusal.{Refusal}
@@ -53,16 +55,32 @@ epoch_text word epoch = word ++ codes " " ++ decimal epoch ++ newline
 unfoldable pub dump_text : List ℕ → List ℕ → List ℕ
 dump_text word text = word ++ codes " " ++ text ++ newline
 
--- the word of what is left
-abbrev pub remnant_word : Remnant → List ℕ
-remnant_word All = codes "all"
-remnant_word Fewer = codes "fewer"
-remnant_word Gone = codes "gone"
+-- a step that chooses leaves, and two OSDs
+unfoldable pub crowded_text : ℕ → ℕ → ℕ → List ℕ
+crowded_text step one other =
+    codes "chooseleaf " ++ decimal step ++ codes " " ++ decimal one ++ codes " " ++ decimal other
 
--- `fkept EPOCH PG WORD`
+-- why all exceptions of a group go: a word, and what it names of steps, places and numbers
+abbrev pub cause_text : Cause → List ℕ
+cause_text (Crowded step one other) = crowded_text step one other
+cause_text (Spread step buckets) = codes "choose " ++ decimal step ++ codes " " ++ decimal buckets
+cause_text (Outside step place) = codes "take " ++ decimal step ++ codes " " ++ place_text place
+cause_text (Unreached place) = codes "unreached " ++ place_text place
+cause_text (Out osd) = codes "out " ++ decimal osd
+cause_text IdleSet = codes "idle-set"
+cause_text SetLength = codes "set-length"
+cause_text IdlePairs = codes "idle-pairs"
+
+-- what is left, and why where that is nothing
+abbrev pub remnant_text : Remnant → List ℕ
+remnant_text All = codes "all"
+remnant_text Fewer = codes "fewer"
+remnant_text (Gone cause) = codes "gone " ++ cause_text cause
+
+-- `fkept EPOCH PG LEFT`
 unfoldable pub kept_text : ℕ → Pg → Remnant → List ℕ
 kept_text epoch pg left =
-    codes "fkept" ++ codes " " ++ decimal epoch ++ codes " " ++ group_text pg ++ codes " " ++ remnant_word left
+    codes "fkept" ++ codes " " ++ decimal epoch ++ codes " " ++ group_text pg ++ codes " " ++ remnant_text left
     ++ newline
 
 -- `ok EPOCH evals N`

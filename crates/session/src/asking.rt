@@ -4,16 +4,26 @@ use crate::command::{Beside, Command, Plan, Task};
 use crate::desk::Desk;
 use crate::following::{follow, follow_sets};
 use crate::pool_sets::{PoolSets, sets_in};
+use crate::reading::KEPT;
 use crate::reply::{Reply, Speaker};
 use crate::watch::watch;
 use balancer::Request;
 use balancer::limits::LEAST_APART;
 use epochlog::Keeps;
-use mapjson::{read_change, read_loads, read_unbased};
+use json::Scratch;
+use mapjson::{read_change_with, read_loads, read_unbased_with};
 use monitor::{Answer, Balance, Commit, Follower, Member};
 use refusal::Refusal;
+use std::alloc::Global;
 use std::sync::Wait;
 use std::thread::Threads;
+
+/// Gives back the room that a long text took.
+fn forget_long(alloc: Global, scratch: &mut Scratch, text: &[u8]) {
+    if text.len() > KEPT {
+        *scratch = Scratch::new(alloc);
+    }
+}
 
 impl<'a, R: Wait + Threads + Sync, G, K: Keeps + Drop> Desk<'a, R, G, K> {
     ghost use Rattle.std.specs.Prelude.{◌≤◌, Some, codes, length};
@@ -42,23 +52,37 @@ impl<'a, R: Wait + Threads + Sync, G, K: Keeps + Drop> Desk<'a, R, G, K> {
     }
 
     /// Commits the change that a text states: the new epoch, and how many groups' placement was worked out anew.
-    fn change(&self, member: &mut Member, text: &[u8]) -> Result<Commit, Refusal>
+    fn change(
+        &self,
+        member: &mut Member,
+        scratch: &mut Scratch,
+        text: &[u8],
+    ) -> Result<Commit, Refusal>
         requires { IsMemberOf self.now.monitor.now member.old }
         ensures { AnswersMember self.now.monitor.now member.old member.new
             (Changes (basis_of self.now.monitor.now) text.now) changed_text result }
     {
-        let (base, change) = read_change(self.alloc, text, self.monitor.profile())?;
+        let read = read_change_with(self.alloc, scratch, text, self.monitor.profile());
+        forget_long(self.alloc, scratch, text);
+        let (base, change) = read?;
         self.monitor.commit(self.rt, member, base, change)
     }
 
     /// Commits the change that a text states without a base to the present map: the new epoch, and how many groups'
     /// placement was worked out anew.
-    fn apply(&self, member: &mut Member, text: &[u8]) -> Result<Commit, Refusal>
+    fn apply(
+        &self,
+        member: &mut Member,
+        scratch: &mut Scratch,
+        text: &[u8],
+    ) -> Result<Commit, Refusal>
         requires { IsMemberOf self.now.monitor.now member.old }
         ensures { AnswersMember self.now.monitor.now member.old member.new
             (Applies (basis_of self.now.monitor.now) text.now) changed_text result }
     {
-        let change = read_unbased(self.alloc, text, self.monitor.profile())?;
+        let read = read_unbased_with(self.alloc, scratch, text, self.monitor.profile());
+        forget_long(self.alloc, scratch, text);
+        let change = read?;
         self.monitor.apply(self.rt, member, change)
     }
 
@@ -177,11 +201,12 @@ impl<'a, R: Wait + Threads + Sync, G, K: Keeps + Drop> Desk<'a, R, G, K> {
         Ok(Reply::Sets { by, sets })
     }
 
-    /// Does a command; `None` is a line that is no command.
+    /// Does a command, whose text is read with a scratch; `None` is a line that is no command.
     pub(crate) fn do_command(
         &self,
         member: &mut Member,
         follower: &mut Option<Follower>,
+        scratch: &mut Scratch,
         command: Option<Command<'_>>,
     ) -> Result<Reply, Refusal>
         requires member { IsMemberOf self.now.monitor.now member.old }
@@ -201,11 +226,11 @@ impl<'a, R: Wait + Threads + Sync, G, K: Keeps + Drop> Desk<'a, R, G, K> {
                 Ok(Reply::Sets { by, sets })
             }
             Some(Command::Change(text)) => {
-                let Commit { epoch, evals } = self.change(member, text)?;
+                let Commit { epoch, evals } = self.change(member, scratch, text)?;
                 Ok(Reply::Changed { epoch, evals })
             }
             Some(Command::Apply(text)) => {
-                let Commit { epoch, evals } = self.apply(member, text)?;
+                let Commit { epoch, evals } = self.apply(member, scratch, text)?;
                 Ok(Reply::Changed { epoch, evals })
             }
             Some(Command::Await(wanted)) => {

@@ -41,7 +41,12 @@ impl<'a, R: Wait + Threads + Sync, G: Gate, K: Keeps + Drop> Desk<'a, R, G, K> {
             return Err(SessionError::Held);
         }
         let command = known_in(self.monitor.profile(), line.command);
-        let reply = self.do_command(member, &mut progress.follower, command);
+        let reply = self.do_command(
+            member,
+            &mut progress.follower,
+            &mut progress.scratch,
+            command,
+        );
         tell_reply(reply, &mut progress.text, sink)
     }
 

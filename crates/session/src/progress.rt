@@ -1,14 +1,16 @@
 //! What a session has of its own.
 
+use json::Scratch;
 use monitor::Follower;
 use std::alloc::Global;
 
-/// How far a session is: its follower, once one is needed, where the lines of its answers are made, and the number of
-/// its next line.
+/// How far a session is: its follower, once one is needed, where the lines of its answers are made, where its changes
+/// are read, and the number of its next line.
 #[derive(Drop)]
 pub(crate) struct Progress {
     pub(crate) follower: Option<Follower>,
     pub(crate) text: String,
+    pub(crate) scratch: Scratch,
     pub(crate) number: u64,
 }
 
@@ -23,6 +25,7 @@ impl Progress {
         Progress {
             follower: None,
             text: String::new(alloc),
+            scratch: Scratch::new(alloc),
             number: 1,
         }
     }

@@ -11,7 +11,7 @@ use crate::progress::Progress;
 use crate::sink::Sink;
 use crate::telling::flush;
 use epochlog::Keeps;
-use monitor::Member;
+use monitor::{Follower, Member};
 use std::io;
 use std::io::Read;
 use std::sync::Wait;
@@ -20,8 +20,9 @@ use std::thread::Threads;
 /// How many bytes are read at once, at most.
 const CHUNK: usize = 16_384;
 
-/// A session keeps room for so many bytes of an answer, and of a line that has begun, from one read to the next.
-const KEPT: usize = 65_536;
+/// A session keeps room for so many bytes of an answer, of a line that has begun and of a change, from one read or line
+/// to the next.
+pub(crate) const KEPT: usize = 65_536;
 
 /// What a session that reads its lines has of its own: its progress, and the line that has begun.
 #[derive(Drop)]
@@ -87,10 +88,10 @@ fn give_back(text: &mut String)
 }
 
 impl<'a, R: Wait + Threads + Sync, G: Gate, K: Keeps + Drop> Desk<'a, R, G, K> {
-    ghost use Rattle.std.specs.Prelude.{◌≡◌, ◌++◌, ◌+◌, ◌<◌, ◌^◌, [], true, false, length, IfOk, OnOk, IfErr};
+    ghost use Rattle.std.specs.Prelude.{◌≡◌, ◌++◌, ◌+◌, ◌<◌, ◌^◌, [], None, true, false, length, IfOk, OnOk, IfErr};
     ghost use Rattle.std.specs.Io.KnownBytes.{IsAtEnd};
     ghost use Rattle.monitor.specs.Members.{IsMemberOf};
-    ghost use Rattle.session.specs.Sessions.{session_at, first_sight, account, stand, reader_at, IsAtDesk, IsReadOut, IsCutShort};
+    ghost use Rattle.session.specs.Sessions.{session_at, first_sight, sight_by, stand, reader_at, IsAtDesk, IsFollowerOf, IsReadOut, IsCutShort};
     ghost use Rattle.session.specs.Readings.{IsUnended, AnswersLine, AnswersLines, AnswersAll, TakesMore};
     ghost use Rattle.session.specs.Ends.{has_sink_failed};
 
@@ -218,17 +219,20 @@ impl<'a, R: Wait + Threads + Sync, G: Gate, K: Keeps + Drop> Desk<'a, R, G, K> {
     pub fn run_from<B: Read, W: Sink>(
         &self,
         member: &mut Member,
+        follower: &mut Option<Follower>,
         reader: &mut B,
         sink: &mut W,
     ) -> Result<(), SessionError>
         requires member { IsMemberOf self.now.monitor.now member.old }
+        requires none { follower.old ≡ None }
         requires unfailed { W.has_failed sink.old ≡ false }
         ensures member { IsMemberOf self.now.monitor.now member.new }
+        ensures follower { IsFollowerOf self.now.monitor.now follower.new }
         ensures out { OnOk result (W.holds_back sink.new ≡ false) }
         ensures ok { OnOk result (IsReadOut (session_at self.now G.lets) (B.remaining reader.old)
-            (first_sight member.old) (account member.new) (W.written sink.old) (W.written sink.new)) }
+            (first_sight member.old) (sight_by member.new follower.new) (W.written sink.old) (W.written sink.new)) }
         ensures err { IfErr result (IsCutShort (session_at self.now G.lets) (B.remaining reader.old)
-            (B.remaining reader.new) (first_sight member.old) (account member.new)
+            (B.remaining reader.new) (first_sight member.old) (sight_by member.new follower.new)
             (W.written sink.old) (W.written sink.new)) }
         ensures failed { W.has_failed sink.new ≡ has_sink_failed result }
     {
@@ -236,9 +240,37 @@ impl<'a, R: Wait + Threads + Sync, G: Gate, K: Keeps + Drop> Desk<'a, R, G, K> {
             progress: Progress::new(self.alloc),
             begun: Vec::new(self.alloc),
         };
+        let done = self.read_lines(member, &mut reading, reader, sink);
+        let Reading { progress, .. } = reading;
+        *follower = progress.follower;
+        done
+    }
+
+    /// Does the commands of a reader's lines, before whose first line a session stands.
+    fn read_lines<B: Read, W: Sink>(
+        &self,
+        member: &mut Member,
+        reading: &mut Reading,
+        reader: &mut B,
+        sink: &mut W,
+    ) -> Result<(), SessionError>
+        requires session { IsAtDesk self.now member.old reading.old.progress (W.has_failed sink.old) false }
+        requires number { reading.old.progress.number ≡ 1 }
+        requires none { reading.old.progress.follower ≡ None }
+        requires begun { reading.old.begun.items ≡ [] }
+        ensures session { IsAtDesk self.now member.new reading.new.progress (W.has_failed sink.new)
+            (has_sink_failed result) }
+        ensures out { OnOk result (W.holds_back sink.new ≡ false) }
+        ensures ok { OnOk result (IsReadOut (session_at self.now G.lets) (B.remaining reader.old)
+            (first_sight member.old) (sight_by member.new reading.new.progress.follower)
+            (W.written sink.old) (W.written sink.new)) }
+        ensures err { IfErr result (IsCutShort (session_at self.now G.lets) (B.remaining reader.old)
+            (B.remaining reader.new) (first_sight member.old) (sight_by member.new reading.new.progress.follower)
+            (W.written sink.old) (W.written sink.new)) }
+    {
         for _ in self.rt.forever() {
-            if self.take_more(member, &mut reading, reader, sink)? {
-                return self.finish(member, &mut reading, sink);
+            if self.take_more(member, reading, reader, sink)? {
+                return self.finish(member, reading, sink);
             }
         }
         unreachable!()

@@ -5,13 +5,13 @@ ghost use Rattle.maptypes.specs.SetText.{list_text};
 ghost use Rattle.maptypes.specs.GroupText.{group_text};
 ghost use Rattle.session.specs.declared.reply.Reply.TheVariants.{Found};
 ghost use Rattle.session.specs.declared.reply.Speaker.TheVariants.{Monitor};
-ghost use Rattle.session.specs.Texts.{count_text, epoch_text, dump_text, up_text, ups_text, groups_text, remnant_word, kept_text, refusal_text, line_of};
+ghost use Rattle.session.specs.Texts.{count_text, epoch_text, dump_text, up_text, ups_text, groups_text, crowded_text, cause_text, remnant_text, kept_text, refusal_text, line_of};
 ghost use Rattle.session.specs.Replies.{up_word, ups_word, epoch_word, dump_word, answer_text, reply_text};
 
 use crate::pool_sets::PoolSets;
-use crate::text::{push_group, push_list, push_number, push_osd, push_places};
+use crate::text::{push_group, push_list, push_number, push_osd, push_place, push_places};
 use maptypes::{Pg, UpSet};
-use monitor::{Answer, Remnant};
+use monitor::{Answer, Cause, Remnant};
 use refusal::Refusal;
 use std::alloc::AllocError;
 
@@ -178,14 +178,52 @@ fn push_groups(text: &mut String, epoch: u64, osd: u32, groups: &[Pg]) -> Result
     text.push_str("]\n")
 }
 
-/// The word of what is left of exceptions.
-fn remnant_word(left: Remnant) -> &'static str
-    ensures { result.now ≡ remnant_word left }
+/// Adds a step that chooses leaves, and two OSDs.
+#[tactic(auto, unfolding(crate::specs::Texts::crowded_text))]
+fn push_crowded(text: &mut String, step: usize, one: u16, other: u16) -> Result<(), AllocError>
+    ensures { OnOk result (string_bytes text.new ≡ string_bytes text.old ++ crowded_text step one other) }
+{
+    text.push_str("chooseleaf ")?;
+    push_number(text, step as u64)?;
+    text.push_str(" ")?;
+    push_number(text, u64::from(one))?;
+    text.push_str(" ")?;
+    push_number(text, u64::from(other))
+}
+
+/// Adds why all exceptions of a group go.
+fn push_cause(text: &mut String, cause: Cause) -> Result<(), AllocError>
+    ensures { OnOk result (string_bytes text.new ≡ string_bytes text.old ++ cause_text cause) }
+{
+    match cause {
+        Cause::Crowded { step, one, other } => push_crowded(text, step, one, other),
+        Cause::Spread { step, buckets } => write!(text, "choose {step} {buckets}"),
+        Cause::Outside { step, place } => {
+            write!(text, "take {step} ")?;
+            push_place(text, place)
+        }
+        Cause::Unreached(place) => {
+            text.push_str("unreached ")?;
+            push_place(text, place)
+        }
+        Cause::Out(osd) => write!(text, "out {osd}"),
+        Cause::IdleSet => text.push_str("idle-set"),
+        Cause::SetLength => text.push_str("set-length"),
+        Cause::IdlePairs => text.push_str("idle-pairs"),
+    }
+}
+
+/// Adds what is left of exceptions.
+fn push_remnant(text: &mut String, left: Remnant) -> Result<(), AllocError>
+    ensures { OnOk result (string_bytes text.new ≡ string_bytes text.old ++ remnant_text left) }
 {
     match left {
-        Remnant::All => "all",
-        Remnant::Fewer => "fewer",
-        Remnant::Gone => "gone",
+        Remnant::All => text.push_str("all"),
+        Remnant::Fewer => text.push_str("fewer"),
+        Remnant::Gone(cause) => {
+            text.push_str("gone ")?;
+            push_cause(text, cause)
+        }
     }
 }
 
@@ -198,7 +236,7 @@ fn push_kept(text: &mut String, epoch: u64, pg: Pg, left: Remnant) -> Result<(),
     text.push_str(" ")?;
     push_group(text, pg)?;
     text.push_str(" ")?;
-    text.push_str(remnant_word(left))?;
+    push_remnant(text, left)?;
     text.push_str("\n")
 }
 

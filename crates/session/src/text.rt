@@ -35,7 +35,7 @@ pub(crate) fn push_osd(text: &mut String, osd: Option<u32>, word: &str) -> Resul
 }
 
 /// The OSD of a place in decimal, or `none`.
-fn push_place(text: &mut String, place: Option<u16>) -> Result<(), AllocError>
+pub(crate) fn push_place(text: &mut String, place: Option<u16>) -> Result<(), AllocError>
     ensures { OnOk result (string_bytes text.new ≡ string_bytes text.old ++ place_text place) }
 {
     match place {

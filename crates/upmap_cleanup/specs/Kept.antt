@@ -1,6 +1,6 @@
 -- Which exceptions a Ceph monitor leaves at a new map (Ceph 16.2, OSDMap.cc: check_pg_upmaps).
-use Rattle.std.specs.Prelude.{ℕ, pos, ◌==◌, Bool, true, false, not, ◌&&◌, ◌||◌, List, [], ◌∷◌, length, map, Option, Some, None, if◌then◌else◌}
-use Rattle.std.specs.List.{list_all, list_any, filter}
+use Rattle.std.specs.Prelude.{ℕ, pos, ◌==◌, Bool, true, false, not, ◌&&◌, ◌||◌, List, [], ◌∷◌, length, Option, Some, None, option_and_then, if◌then◌else◌}
+use Rattle.std.specs.List.{list_all, list_any}
 use Rattle.std.specs.Option.{option_map, option_map_or}
 use Rattle.crush.specs.Paths.{reaches}
 use Rattle.maptypes.specs.declared.exception.Pair.{Pair}
@@ -11,19 +11,32 @@ use Rattle.maptypes.specs.Sets.{stands, is_of}
 use Rattle.osdmap.specs.Maps.{ClusterMap, pool_at}
 use Rattle.osdmap.specs.Mapped.{is_weightless}
 use Rattle.osdmap.specs.Placement.{group_of, steps_of, raw_set, mapped_set}
-use Rattle.upmap_cleanup.specs.Reading.{may_stand}
+use Rattle.upmap_cleanup.specs.Causes.{first}
+use Rattle.upmap_cleanup.specs.Reading.{rule_fault}
+use Rattle.upmap_cleanup.specs.declared.cause.Cause.{Cause}
+use Rattle.upmap_cleanup.specs.declared.cause.Cause.TheVariants.{Unreached, Out, IdleSet, SetLength, IdlePairs}
 use Rattle.upmap_cleanup.specs.declared.kept.Remnant.{Remnant}
 use Rattle.upmap_cleanup.specs.declared.kept.Remnant.TheVariants.{All, Fewer, Gone}
 
--- whether a place has an OSD that the pool's rule reaches, and that is in
-abbrev pub is_weighed : ClusterMap → PoolFacts → Option ℕ → Bool
-is_weighed m p None = false
-is_weighed m p (Some osd) = reaches m.buckets (steps_of m p) (pos osd) && not (is_weightless m.weights osd)
+-- what is wrong with an OSD of a set: the pool's rule does not reach it, or it is out
+unfoldable pub osd_fault : ClusterMap → PoolFacts → ℕ → Option Cause
+osd_fault m p osd =
+    if not (reaches m.buckets (steps_of m p) (pos osd)) then Some (Unreached (Some osd))
+    else if is_weightless m.weights osd then Some (Out osd) else None
 
--- whether a set may stand in a pool
-unfoldable pub is_set_lawful : ClusterMap → PoolFacts → List (Option ℕ) → Bool
-is_set_lawful m p places =
-    may_stand m.buckets (steps_of m p) p.size places && list_all (is_weighed m p) places
+-- what is wrong with a place of a set
+abbrev pub place_fault : ClusterMap → PoolFacts → Option ℕ → Option Cause
+place_fault m p None = Some (Unreached None)
+place_fault m p (Some osd) = osd_fault m p osd
+
+-- with the first of some places that is wrong
+abbrev pub places_fault : ClusterMap → PoolFacts → List (Option ℕ) → Option Cause
+places_fault m p [] = None
+places_fault m p (place ∷ places) = first (place_fault m p place) (places_fault m p places)
+
+-- why a set may not stand in a pool
+unfoldable pub set_fault : ClusterMap → PoolFacts → List (Option ℕ) → Option Cause
+set_fault m p places = first (rule_fault m.buckets (steps_of m p) p.size places) (places_fault m p places)
 
 -- whether an explicit set is not what the rule gives
 abbrev pub says_more : List (Option ℕ) → List ℕ → Bool
@@ -32,29 +45,40 @@ says_more [] (osd ∷ osds) = true
 says_more (place ∷ places) [] = true
 says_more (place ∷ places) (osd ∷ osds) = not (is_of osd place) || says_more places osds
 
--- whether an explicit set says more than the rule, and has as many places as the pool
-abbrev pub explicit_serves : PoolFacts → List (Option ℕ) → List ℕ → Bool
-explicit_serves p raw osds = says_more raw osds && length osds == p.size
+-- why an explicit set does not serve: it is what the rule gives, or has not as many places as the pool
+abbrev pub explicit_fault : PoolFacts → List (Option ℕ) → List ℕ → Option Cause
+explicit_fault p raw osds =
+    if not (says_more raw osds) then Some IdleSet else if length osds == p.size then None else Some SetLength
 
 -- whether a pair leads from an OSD that the rule gives to one that is in
 unfoldable pub acts : List ℕ → List (Option ℕ) → Pair → Bool
 acts weights raw pair = stands pair.from raw && not (is_weightless weights pair.to)
 
--- whether the exceptions of a group stay, all or some: its set may stand, its explicit set serves, and a pair acts
-unfoldable pub keeps : ClusterMap → PoolFacts → ℕ → Bool
-keeps m p n =
-    is_set_lawful m p (mapped_set m p n)
-    && option_map_or (explicit_serves p (raw_set m p n)) (said_of m.explicit (group_of p n)) true
-    && option_map_or (list_any (acts m.weights (raw_set m p n))) (said_of m.items (group_of p n)) true
+-- why some pairs do not serve: none of them acts
+abbrev pub pairs_fault : List ℕ → List (Option ℕ) → List Pair → Option Cause
+pairs_fault weights raw pairs = if list_any (acts weights raw) pairs then None else Some IdlePairs
+
+-- why no exception of a group stays: its set may not stand, its explicit set does not serve, or its pairs do not
+unfoldable pub cause_of : ClusterMap → PoolFacts → ℕ → Option Cause
+cause_of m p n =
+    first (set_fault m p (mapped_set m p n))
+    (first (option_and_then (explicit_fault p (raw_set m p n)) (said_of m.explicit (group_of p n)))
+    (option_and_then (pairs_fault m.weights (raw_set m p n)) (said_of m.items (group_of p n))))
 
 -- whether each pair of a group acts
 unfoldable pub all_act : ClusterMap → PoolFacts → ℕ → Bool
 all_act m p n =
     option_map_or (list_all (acts m.weights (raw_set m p n))) (said_of m.items (group_of p n)) true
 
+-- what is left where this takes all away, if there is something, and else where each pair acts or not
+abbrev pub remnant_by : Option Cause → Bool → Remnant
+remnant_by (Some cause) all = Gone cause
+remnant_by None true = All
+remnant_by None false = Fewer
+
 -- what a monitor leaves of the exceptions of a group
 unfoldable pub remnant_of : ClusterMap → PoolFacts → ℕ → Remnant
-remnant_of m p n = if not (keeps m p n) then Gone else if all_act m p n then All else Fewer
+remnant_of m p n = remnant_by (cause_of m p n) (all_act m p n)
 
 -- the same of a group by its pool's number, where there is such a pool
 abbrev pub remnant_at : ClusterMap → Pg → Option Remnant

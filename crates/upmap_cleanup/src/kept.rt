@@ -1,6 +1,6 @@
 //! Whether a Ceph monitor keeps the exceptions of a group (Ceph 16.2, OSDMap.cc: `check_pg_upmaps`).
 
-ghost use Rattle.std.specs.Prelude.{◌≡◌, true, Some, pos, not, length};
+ghost use Rattle.std.specs.Prelude.{◌≡◌, true, Some, None, pos, not, length, option_and_then};
 ghost use Rattle.std.specs.List.{list_any, list_all};
 ghost use Rattle.std.specs.Option.{option_map_or, option_copied};
 ghost use Rattle.refusal.specs.Outcomes.{Gives};
@@ -9,8 +9,10 @@ ghost use Rattle.maptypes.specs.Exceptions.{said_of};
 ghost use Rattle.maptypes.specs.Sets.{is_of};
 ghost use Rattle.osdmap.specs.Mapped.{is_weightless};
 ghost use Rattle.osdmap.specs.Placement.{group_fault, group_of, steps_of, raw_set, mapped_set, RunsOnce};
-ghost use Rattle.upmap_cleanup.specs.Kept.{is_weighed, is_set_lawful, says_more, explicit_serves, acts, remnant_at};
+ghost use Rattle.upmap_cleanup.specs.Causes.{first};
+ghost use Rattle.upmap_cleanup.specs.Kept.{osd_fault, place_fault, places_fault, set_fault, says_more, explicit_fault, acts, pairs_fault, remnant_at};
 
+use crate::cause::Cause;
 use crate::reading::Reading;
 use crush::{Forest, Step, Work};
 use maptypes::{Pair, Pg, Pool, UpSet};
@@ -24,8 +26,8 @@ pub enum Remnant {
     All,
     /// Its explicit set, and some of its pairs alone.
     Fewer,
-    /// None.
-    Gone,
+    /// None, and why.
+    Gone(Cause),
 }
 
 /// A pool of a map, with the steps of its rule.
@@ -120,65 +122,116 @@ fn all_act(map: &OsdMap, raw: &UpSet, pairs: &[Pair]) -> bool
 }
 
 impl Judge<'_> {
-    /// Whether a place has an OSD that the rule reaches, and that is in.
-    fn is_weighed(&self, place: Option<u16>) -> bool
-        ensures { result ≡ is_weighed self.now.map.now.map self.now.pool place }
+    /// What is wrong with an OSD of a set.
+    #[tactic(auto, unfolding(crate::specs::Kept::osd_fault))]
+    fn osd_fault(&self, own: u16) -> Option<Cause>
+        ensures { result ≡ osd_fault self.now.map.now.map self.now.pool own }
+    {
+        let osd = u32::from(own);
+        if !reaches(self.map.forest(), self.steps, osd) {
+            Some(Cause::Unreached(Some(own)))
+        } else if is_weightless(self.map, osd) {
+            Some(Cause::Out(own))
+        } else {
+            None
+        }
+    }
+
+    /// What is wrong with a place of a set.
+    fn place_fault(&self, place: Option<u16>) -> Option<Cause>
+        ensures { result ≡ place_fault self.now.map.now.map self.now.pool place }
     {
         match place {
-            None => false,
-            Some(osd) => {
-                let osd = u32::from(osd);
-                reaches(self.map.forest(), self.steps, osd) && !is_weightless(self.map, osd)
+            None => Some(Cause::Unreached(None)),
+            Some(osd) => self.osd_fault(osd),
+        }
+    }
+
+    /// What is wrong with the first of some places that is wrong.
+    fn places_fault(&self, places: &[Option<u16>]) -> Option<Cause>
+        ensures { result ≡ places_fault self.now.map.now.map self.now.pool places.now }
+    {
+        match places {
+            [] => None,
+            [place, rest @ ..] => match self.place_fault(*place) {
+                Some(cause) => Some(cause),
+                None => self.places_fault(rest),
             },
         }
     }
 
-    /// Whether each of some places has one.
-    fn are_weighed(&self, places: &[Option<u16>]) -> bool
-        ensures { result ≡ list_all (is_weighed self.now.map.now.map self.now.pool) places.now }
-    {
-        places.iter().all(|place| self.is_weighed(*place))
-    }
-
-    /// Whether a set may stand in the pool.
-    #[tactic(auto, unfolding(crate::specs::Kept::is_set_lawful))]
-    fn is_lawful(&self, set: &UpSet) -> bool
-        ensures { result ≡ is_set_lawful self.now.map.now.map self.now.pool set.now }
+    /// Why a set may not stand in the pool.
+    #[tactic(auto, unfolding(crate::specs::Kept::set_fault))]
+    fn set_fault(&self, set: &UpSet) -> Option<Cause>
+        ensures { result ≡ set_fault self.now.map.now.map self.now.pool set.now }
     {
         let reading = Reading {
             forest: self.map.forest(),
             steps: self.steps,
             size: self.pool.size(),
         };
-        reading.may_stand(set.places()) && self.are_weighed(set.places())
-    }
-
-    /// Whether an explicit set serves.
-    fn serves(&self, raw: &UpSet, osds: &[u32]) -> bool
-        ensures { result ≡ explicit_serves self.now.pool raw.now osds.now }
-    {
-        says_more(raw.places(), osds) && osds.len() == usize::from(self.pool.size())
-    }
-
-    /// Whether a group's explicit set serves, where it has one.
-    fn has_good_set(&self, raw: &UpSet, pg: Pg) -> bool
-        ensures { result
-            ≡ option_map_or (explicit_serves self.now.pool raw.now) (said_of self.now.map.now.map.explicit pg) true }
-    {
-        match self.map.explicit(pg) {
-            None => true,
-            Some(osds) => self.serves(raw, osds),
+        match reading.fault(set.places()) {
+            Some(cause) => Some(cause),
+            None => self.places_fault(set.places()),
         }
     }
 
-    /// Whether one of a group's pairs acts, where it has some.
-    fn has_good_pair(&self, raw: &UpSet, pg: Pg) -> bool
-        ensures { result ≡ option_map_or (list_any (acts self.now.map.now.map.weights raw.now))
-            (said_of self.now.map.now.map.items pg) true }
+    /// Why an explicit set does not serve.
+    fn explicit_fault(&self, raw: &UpSet, osds: &[u32]) -> Option<Cause>
+        ensures { result ≡ explicit_fault self.now.pool raw.now osds.now }
+    {
+        if !says_more(raw.places(), osds) {
+            return Some(Cause::IdleSet);
+        }
+        if osds.len() == usize::from(self.pool.size()) {
+            None
+        } else {
+            Some(Cause::SetLength)
+        }
+    }
+
+    /// Why a group's explicit set does not serve, where it has one.
+    fn own_set_fault(&self, raw: &UpSet, pg: Pg) -> Option<Cause>
+        ensures { result
+            ≡ option_and_then (explicit_fault self.now.pool raw.now) (said_of self.now.map.now.map.explicit pg) }
+    {
+        match self.map.explicit(pg) {
+            None => None,
+            Some(osds) => self.explicit_fault(raw, osds),
+        }
+    }
+
+    /// Why a group's pairs do not serve, where it has some.
+    fn own_pairs_fault(&self, raw: &UpSet, pg: Pg) -> Option<Cause>
+        ensures { result ≡ option_and_then (pairs_fault self.now.map.now.map.weights raw.now)
+            (said_of self.now.map.now.map.items pg) }
     {
         match self.map.items(pg) {
-            None => true,
-            Some(pairs) => any_acts(self.map, raw, pairs),
+            None => None,
+            Some(pairs) => {
+                if any_acts(self.map, raw, pairs) {
+                    None
+                } else {
+                    Some(Cause::IdlePairs)
+                }
+            }
+        }
+    }
+
+    /// Why none of a group's exceptions stays, by its raw set and its mapped set.
+    fn cause(&self, raw: &UpSet, mapped: &UpSet, pg: Pg) -> Option<Cause>
+        ensures { result ≡ first (set_fault self.now.map.now.map self.now.pool mapped.now)
+            (first (option_and_then (explicit_fault self.now.pool raw.now)
+            (said_of self.now.map.now.map.explicit pg))
+            (option_and_then (pairs_fault self.now.map.now.map.weights raw.now)
+            (said_of self.now.map.now.map.items pg))) }
+    {
+        if let Some(cause) = self.set_fault(mapped) {
+            return Some(cause);
+        }
+        match self.own_set_fault(raw, pg) {
+            Some(cause) => Some(cause),
+            None => self.own_pairs_fault(raw, pg),
         }
     }
 
@@ -201,7 +254,7 @@ impl Judge<'_> {
 ///
 /// `UnknownPool` (23) where the map has no such pool; else `UnknownGroup` (25) where the pool has no such group; else
 /// `Memory` (30) where there is no memory for the run. No run is counted then.
-#[tactic(auto, unfolding(crate::specs::Kept::remnant_of, crate::specs::Kept::keeps, crate::specs::Kept::all_act))]
+#[tactic(auto, unfolding(crate::specs::Kept::remnant_of, crate::specs::Kept::cause_of, crate::specs::Kept::all_act))]
 pub fn remnant_of(map: &OsdMap, pg: Pg, work: &mut Work) -> Result<Remnant, Refusal>
     ensures left { Gives result (group_fault map.now.map pg) (λ left. Some left ≡ remnant_at map.now.map pg) }
     ensures run { RunsOnce work.old work.new result }
@@ -216,11 +269,8 @@ pub fn remnant_of(map: &OsdMap, pg: Pg, work: &mut Work) -> Result<Remnant, Refu
         number: pg.number,
     };
     let judge = Judge { map, pool, steps };
-    if !judge.is_lawful(&mapped)
-        || !judge.has_good_set(&raw, own)
-        || !judge.has_good_pair(&raw, own)
-    {
-        return Ok(Remnant::Gone);
+    if let Some(cause) = judge.cause(&raw, &mapped, own) {
+        return Ok(Remnant::Gone(cause));
     }
     if judge.has_good_pairs(&raw, own) {
         Ok(Remnant::All)

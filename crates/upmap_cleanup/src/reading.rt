@@ -1,12 +1,13 @@
 //! How a Ceph monitor reads a rule where it looks whether a set may stand (Ceph 16.2, CrushWrapper.cc: `verify_upmap`).
 
 ghost use Rattle.std.specs.Prelude.{◌≡◌, ◌≤◌, length, pos};
-ghost use Rattle.std.specs.List.{list_any, list_all};
+ghost use Rattle.std.specs.List.{list_any};
 ghost use Rattle.crush.specs.Limits.{max_size};
 ghost use Rattle.maptypes.specs.Sets.{is_of};
 ghost use Rattle.crush.specs.Run.{numrep_of};
-ghost use Rattle.upmap_cleanup.specs.Reading.{takes_at, within_takes, holder, is_same, clash, are_apart, is_new, spread, suits, is_below, reads, may_stand};
+ghost use Rattle.upmap_cleanup.specs.Reading.{takes_at, within_takes, holder, is_same, clash, clash_with, crowded, is_new, spread, misfit, is_below, outside, fault_from, rule_fault};
 
+use crate::cause::Cause;
 use crush::{Choose, Forest, Step};
 
 /// A rule over a forest, for a pool of a size.
@@ -103,21 +104,34 @@ impl Reading<'_> {
         }
     }
 
-    /// Whether a place clashes with one of the others.
-    fn clashes(&self, level: u8, place: Option<u16>, others: &[Option<u16>]) -> bool
-        ensures { result ≡ list_any (clash self.now.forest.now self.now.steps.now level place) others.now }
+    /// The first of some places whose OSD clashes with that of a place before them.
+    #[tactic(auto, unfolding(crate::specs::Reading::clash_with))]
+    fn clash_with(&self, level: u8, place: Option<u16>, others: &[Option<u16>]) -> Option<u16>
+        ensures { result ≡ clash_with self.now.forest.now self.now.steps.now level place others.now }
     {
-        others.iter().any(|other| self.clash(level, place, *other))
+        match others {
+            [] => None,
+            [other, rest @ ..] => {
+                if self.clash(level, place, *other) {
+                    *other
+                } else {
+                    self.clash_with(level, place, rest)
+                }
+            }
+        }
     }
 
-    /// Whether no two places have different OSDs below one bucket of a type.
-    #[tactic(auto, unfolding(crate::specs::Reading::are_apart))]
-    fn are_apart(&self, level: u8, places: &[Option<u16>]) -> bool
-        ensures { result ≡ are_apart self.now.forest.now self.now.steps.now level places.now }
+    /// The first two places that have different OSDs below one bucket of a type.
+    #[tactic(auto, unfolding(crate::specs::Reading::crowded))]
+    fn crowded(&self, level: u8, step: usize, places: &[Option<u16>]) -> Option<Cause>
+        ensures { result ≡ crowded self.now.forest.now self.now.steps.now level step places.now }
     {
         match places {
-            [] => true,
-            [place, rest @ ..] => !self.clashes(level, *place, rest) && self.are_apart(level, rest),
+            [] => None,
+            [place, rest @ ..] => match (*place, self.clash_with(level, *place, rest)) {
+                (Some(one), Some(other)) => Some(Cause::Crowded { step, one, other }),
+                _ => self.crowded(level, step, rest),
+            },
         }
     }
 
@@ -158,18 +172,22 @@ impl Reading<'_> {
         }
     }
 
-    /// Whether a set may stand by a choice.
-    #[tactic(auto, unfolding(crate::specs::Reading::suits))]
-    fn suits(&self, places: &[Option<u16>], choose: Choose) -> bool
-        ensures { result ≡ suits self.now.forest.now self.now.steps.now self.now.size places.now choose }
+    /// Why a set may not stand by a choice, the step of this number.
+    #[tactic(auto, unfolding(crate::specs::Reading::misfit))]
+    fn misfit(&self, places: &[Option<u16>], step: usize, choose: Choose) -> Option<Cause>
+        ensures { result ≡ misfit self.now.forest.now self.now.steps.now self.now.size places.now step choose }
     {
         if choose.level == 0 {
-            return true;
+            return None;
         }
         if choose.to_leaf {
-            self.are_apart(choose.level, places)
+            return self.crowded(choose.level, step, places);
+        }
+        let buckets = self.spread(choose.level, places);
+        if buckets <= usize::from(numrep(choose, self.size)) {
+            None
         } else {
-            self.spread(choose.level, places) <= usize::from(numrep(choose, self.size))
+            Some(Cause::Spread { step, buckets })
         }
     }
 
@@ -183,55 +201,77 @@ impl Reading<'_> {
         }
     }
 
-    /// Whether all of some places have OSDs below a bucket.
-    fn are_below(&self, top: i32, places: &[Option<u16>]) -> bool
-        ensures { result ≡ list_all (is_below self.now.forest.now top) places.now }
+    /// The first of some places that has no OSD below a bucket, by the step of this number.
+    fn outside(&self, top: i32, step: usize, places: &[Option<u16>]) -> Option<Cause>
+        ensures { result ≡ outside self.now.forest.now top step places.now }
     {
-        places.iter().all(|place| self.is_below(top, *place))
+        match places {
+            [] => None,
+            [place, rest @ ..] => {
+                if self.is_below(top, *place) {
+                    self.outside(top, step, rest)
+                } else {
+                    Some(Cause::Outside {
+                        step,
+                        place: *place,
+                    })
+                }
+            }
+        }
     }
 
-    /// How the rule is read from a step on.
-    #[tactic(auto, unfolding(crate::specs::Reading::reads))]
-    fn reads(
+    /// What is wrong with a set as the rule is read from a step on.
+    #[tactic(auto, unfolding(crate::specs::Reading::fault_from))]
+    fn fault_from(
         &self,
         places: &[Option<u16>],
         top: i32,
         room: usize,
         rest: &[Option<u16>],
         steps: &[Step],
-    ) -> bool
-        requires { room ≤ max_size }
+    ) -> Option<Cause>
+        requires room { room ≤ max_size }
+        requires few { length steps.now ≤ length self.now.steps.now }
         ensures { result
-            ≡ reads self.now.forest.now self.now.steps.now self.now.size places.now top room rest.now steps.now }
+            ≡ fault_from self.now.forest.now self.now.steps.now self.now.size places.now top room rest.now steps.now }
     {
+        let number = self.steps.len() - steps.len();
         match steps {
-            [] => true,
-            [Step::SetChooseTries(_), others @ ..] => self.reads(places, top, room, rest, others),
-            [Step::SetChooseleafTries(_), others @ ..] => self.reads(
+            [] => None,
+            [Step::SetChooseTries(_), others @ ..] => self.fault_from(
                 places, top, room, rest, others,
             ),
-            [Step::SetChooseleafVaryR(_), others @ ..] => self.reads(
+            [Step::SetChooseleafTries(_), others @ ..] => self.fault_from(
                 places, top, room, rest, others,
             ),
-            [Step::SetChooseleafStable(_), others @ ..] => self.reads(
+            [Step::SetChooseleafVaryR(_), others @ ..] => self.fault_from(
                 places, top, room, rest, others,
             ),
-            [Step::Take(id), others @ ..] => self.reads(places, *id, room, rest, others),
+            [Step::SetChooseleafStable(_), others @ ..] => self.fault_from(
+                places, top, room, rest, others,
+            ),
+            [Step::Take(id), others @ ..] => self.fault_from(places, *id, room, rest, others),
             [Step::Choose(choose), others @ ..] => {
                 let more = (room * usize::from(numrep(*choose, self.size))).min(20);
-                self.suits(places, *choose) && self.reads(places, top, more, rest, others)
+                match self.misfit(places, number, *choose) {
+                    Some(cause) => Some(cause),
+                    None => self.fault_from(places, top, more, rest, others),
+                }
             }
             [Step::Emit, others @ ..] => {
                 let (block, left) = rest.split_at(room.min(rest.len()));
-                self.are_below(top, block) && self.reads(places, top, 1, left, others)
+                match self.outside(top, number, block) {
+                    Some(cause) => Some(cause),
+                    None => self.fault_from(places, top, 1, left, others),
+                }
             }
         }
     }
 
-    /// Whether a set may stand by the rule.
-    pub(crate) fn may_stand(&self, places: &[Option<u16>]) -> bool
-        ensures { result ≡ may_stand self.now.forest.now self.now.steps.now self.now.size places.now }
+    /// What the rule finds wrong with a set.
+    pub(crate) fn fault(&self, places: &[Option<u16>]) -> Option<Cause>
+        ensures { result ≡ rule_fault self.now.forest.now self.now.steps.now self.now.size places.now }
     {
-        self.reads(places, 0, 1, places, self.steps)
+        self.fault_from(places, 0, 1, places, self.steps)
     }
 }

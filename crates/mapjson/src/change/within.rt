@@ -1,4 +1,5 @@
-//! The change that stated parts within their limits stand for.
+//! The change that stated parts within their limits stand for. Most lists of a change are empty, and are told apart at
+//! once.
 ghost use Rattle.std.specs.Prelude.{◌≡◌, true, IsTrue, All, IfOk, map, pos, nat_abs};
 ghost use Rattle.std.specs.List.{list_all};
 ghost use Rattle.std.specs.Option.{option_map_or};
@@ -28,11 +29,14 @@ fn words(alloc: Global, numbers: &[i128]) -> Result<Vec<u32>, AllocError>
     requires { All (λ number. IsTrue (is_between (pos 0) (pos 4294967295) number)) numbers.now }
     ensures { IfOk result (λ found. found.items ≡ map nat_abs numbers.now) }
 {
+    if numbers.is_empty() {
+        return Ok(Vec::new(alloc));
+    }
     numbers.iter().map(|number| word(*number)).collect(alloc)
 }
 
 /// A reweight that is within the limits.
-#[tactic(auto, unfolding(mapparts::specs::Changes::reweight_fits), using(mapparts::proofs::Within::osd_id_word))]
+#[tactic(auto, unfolding(mapparts::specs::Changes::reweight_fits_in), using(mapparts::proofs::Within::osd_id_word))]
 fn reweight(stated: &ReweightPart) -> Reweight
     requires { IsTrue (reweight_fits stated.now) }
     ensures { result ≡ reweight_within stated.now }
@@ -48,6 +52,9 @@ fn reweights(alloc: Global, stated: &[ReweightPart]) -> Result<Vec<Reweight>, Al
     requires { All (λ one. IsTrue (reweight_fits one)) stated.now }
     ensures { IfOk result (λ found. found.items ≡ map reweight_within stated.now) }
 {
+    if stated.is_empty() {
+        return Ok(Vec::new(alloc));
+    }
     stated.iter().map(|one| reweight(one)).collect(alloc)
 }
 
@@ -55,6 +62,9 @@ fn reweights(alloc: Global, stated: &[ReweightPart]) -> Result<Vec<Reweight>, Al
 fn groups(alloc: Global, stated: &[PgParts]) -> Result<Vec<Pg>, AllocError>
     ensures { IfOk result (λ found. found.items ≡ map pg_of stated.now) }
 {
+    if stated.is_empty() {
+        return Ok(Vec::new(alloc));
+    }
     stated.iter().map(|one| Pg::of_parts(one)).collect(alloc)
 }
 
@@ -89,6 +99,7 @@ fn growths(alloc: Global, stated: &[GrowPart]) -> Result<Vec<Grow>, Refusal>
 }
 
 /// The CRUSH map of a change that is within the limits, where it has one: `BadForest` (13), `BadRule` (14).
+#[inline(always)]
 pub(super) fn crush_within(
     alloc: Global,
     crush: &Option<CrushParts>,
@@ -103,7 +114,7 @@ pub(super) fn crush_within(
 }
 
 /// The CRUSH map over 4,096 devices that parts within the limits state: `BadForest` (13), `BadRule` (14).
-#[tactic(auto, unfolding(mapparts::specs::Parts::crush_fits))]
+#[tactic(auto, unfolding(mapparts::specs::Parts::crush_fits_in))]
 fn make_crush(alloc: Global, parts: &CrushParts) -> Result<CrushMap, Refusal>
     requires { crush_fits parts.now ≡ true }
     ensures { Makes result (crush_fault parts.now.buckets parts.now.rules max_devices)
@@ -143,7 +154,8 @@ fn osds_within(alloc: Global, stated: &OsdChanges<i128>) -> Result<OsdChanges<u3
 
 /// The parts of a change that is within the limits, of a profile and with a CRUSH map: `BadPool` (15) where a pool that
 /// comes or grows has more groups for placement than groups; or `Memory` (30).
-#[tactic(auto, unfolding(mapparts::specs::Changes::change_fits))]
+#[tactic(auto, unfolding(mapparts::specs::Changes::change_fits_in))]
+#[inline(always)]
 pub(super) fn parts_within(
     alloc: Global,
     change: &RawChange,
@@ -172,7 +184,7 @@ pub(super) fn parts_within(
 }
 
 /// The base of a change that is within the limits.
-#[tactic(auto, unfolding(mapparts::specs::Changes::change_fits, mapparts::specs::Parts::is_between))]
+#[tactic(auto, unfolding(mapparts::specs::Changes::change_fits_in, mapparts::specs::Parts::is_between))]
 pub(super) fn base_within(change: &RawChange) -> u64
     requires { change_fits change.now ≡ true }
     ensures { result ≡ nat_abs change.now.base }

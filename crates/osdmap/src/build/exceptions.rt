@@ -13,6 +13,7 @@ impl OsdMap {
     ghost use Rattle.refusal.specs.declared.refused.Refusal.TheVariants.{BadException};
     ghost use Rattle.maptypes.specs.Exceptions.{key_of, is_exception};
     ghost use Rattle.osdmap.specs.Maps.{osd_exists};
+    ghost use Rattle.mapparts.specs.Limits.{stock};
     ghost use Rattle.mapparts.specs.Parts.{exceptions_fit};
     ghost use Rattle.maptypes.specs.Values.{exception_of};
     ghost use Rattle.refusal.specs.Outcomes.{Makes};
@@ -54,7 +55,7 @@ impl OsdMap {
         alloc: Global,
         parts: &[ExceptionPart<P>],
     ) -> Result<Vec<Exception<E>>, Refusal>
-        requires { exceptions_fit P.within parts.now ≡ true }
+        requires { exceptions_fit (P.within stock) parts.now ≡ true }
         ensures { Makes result (refused_unless (exceptions_ok E.names E.sound self.now.map.pools
             (osd_exists self.now.map) (map (exception_of P.entry_of) parts.now)) BadException)
             (λ es. Rises key_of (map (exception_of P.entry_of) parts.now) es.items) }

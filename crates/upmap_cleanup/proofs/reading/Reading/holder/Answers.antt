@@ -1,9 +1,9 @@
-use Rattle.std.proofs.Common.{◌≡◌, ◌∙◌, sym, subst, ℕ, ℤ, pos, Some, rules}
+use Rattle.std.proofs.Common.{◌≡◌, ◌∙◌, sym, subst, ℕ, pos, Some, rules}
 use mir.Syntax.{w32}
-use mir.Val.{SFits, to_z, of_z}
+use mir.Val.{SFits}
 use Rattle.std.proofs.lemmas.Int.{to_z-of_z}
 use Rattle.crush.specs.Paths.{ancestor_of}
-use Rattle.upmap_cleanup.specs.Reading.{within_takes, holder}
+use Rattle.upmap_cleanup.specs.Reading.{holder}
 use Rattle.upmap_cleanup.proofs.reading.Reading.holder.Goals as goal
 
 pub returns-in-Some-ancestor_of_device : goal.returns-in-Some-ancestor_of_device

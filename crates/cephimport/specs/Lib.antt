@@ -1,0 +1,14 @@
+pub mod Why
+pub mod Pools
+pub mod Osds
+pub mod Exceptions
+pub mod WeightSets
+pub mod Buckets
+pub mod Uses
+pub mod Reach
+pub mod Steps
+pub mod Tuned
+pub mod Rules
+pub mod FitRules
+pub mod FitBuckets
+pub mod Whole

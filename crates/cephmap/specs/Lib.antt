@@ -1,0 +1,10 @@
+pub mod Parts
+pub mod Groups
+pub mod Pools
+pub mod Buckets
+pub mod Rules
+pub mod Crush
+pub mod Addresses
+pub mod Maps
+pub mod Laws
+pub mod Rooms

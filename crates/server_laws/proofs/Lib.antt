@@ -1,0 +1,6 @@
+mod Histories
+mod Merged
+mod Apart
+mod Session
+mod Run
+mod Sound
