@@ -12,11 +12,13 @@ CPU =
 # Another build of the program, which `bench` puts beside this one, and the folder in which it keeps its tables (empty: in none).
 OTHER =
 RESULTS = $(CURDIR)/bench/results
-# The log of the gate that the built programs have passed, for `dist`.
+# The log of the gate that the built programs have passed, for `dist`; and the key that signs its checksums, where there is one: the
+# file of a key of minisign, or the name of one of gpg.
 LOG = gate.log
+KEY =
 BENCHES = placements tables steps sessions live store balancer reading cliffs tools wide whole_cluster
 
-.PHONY: help form try checked prove run store test gate runs bench dist
+.PHONY: help form try checked prove run store test gate runs bench static dist packages release
 
 help:
 	@echo 'make form   the tests of form: sources, pages, figures and types, without a program (half a minute to a minute)'
@@ -27,13 +29,16 @@ help:
 	@echo '            MAP= and SCRIPT= as above; CPU=x86-64-v3 (or another of LLVM) builds it for that processor'
 	@echo 'make store  the program whose map a file keeps, proved and built: crates/osdmapstore/out/osdmapstore'
 	@echo 'make test   the gate: the tests of form, every proof (from nothing the first time, later only what changed), the edits that'
-	@echo '            must not prove, the tests, then runs of the built program'
+	@echo '            must not prove, the tests, then runs of the built program, also beside one that is built with checks'
 	@echo 'make gate   the gate without the runs'
-	@echo 'make runs   the runs of the built program alone (four to seven minutes)'
+	@echo 'make runs   the runs of the built program alone (4 to 15 minutes)'
 	@echo 'make bench  what the built program costs, as tables: placements beside plain C (cc, and valgrind for instructions), table, sessions, balancer, reading, tools for operators, plans for whole clusters (of REKHUSO_CLUSTERS)'
 	@echo '            OTHER=/another/osdmapd measures another build of it beside; each whole table is kept in bench/results (RESULTS= in none)'
+	@echo 'make static the same programs linked with a C library of their own, as a release has them: crates/*/out/static (gcc)'
 	@echo 'make dist   one archive in dist/ of the programs that are built, the tools and their wheel, the pages, and the log of their gate:'
-	@echo '            LOG=gate.log names it (make gate 2>&1 | tee gate.log)'
+	@echo '            LOG=gate.log names it (make gate 2>&1 | tee gate.log), KEY= a key of minisign (a file) or gpg (a name) for the checksums'
+	@echo 'make packages  of that archive packages for Debian and RHEL (dpkg-deb, rpmbuild), and the checksums of all in dist/; KEY= as above'
+	@echo 'make release  both, and a tag of git by the version, with these checksums'
 
 # What the gate begins with.
 form:
@@ -43,7 +48,7 @@ form:
 try:
 	@echo 'Nothing is proved by this: the program is built with checks, run once, and not kept.' >&2
 	@folder=$$(mktemp -d) && trap 'rm -r "$$folder"' EXIT && cat '$(MAP)' > "$$folder/map.json" && cat '$(SCRIPT)' > "$$folder/script.txt" && \
-		cd crates/osdmapd && rt try --data map.json="$$folder/map.json" --data script.txt="$$folder/script.txt" -- map.json script.txt
+		cd crates/osdmapd && python3 ../../tools/going.py 15 'make try' rt try --data map.json="$$folder/map.json" --data script.txt="$$folder/script.txt" -- map.json script.txt
 
 # Keeps the program that is built with checks in place of proofs.
 checked:
@@ -62,7 +67,7 @@ store:
 	@cd crates/osdmapstore && rt run $(if $(CPU),--cpu $(CPU)) -- --help
 	@python3 tools/proved.py $(STORE)
 
-test: gate runs
+test: gate checked runs
 
 gate:
 	@bash .ci/gate
@@ -80,5 +85,14 @@ bench:
 	$(if $(OTHER),python3 bench/beside.py $(PROGRAM) '$(OTHER)' || failed=1;) \
 	test -z "$$failed"
 
+static:
+	@python3 tools/static.py $(PROGRAM) $(STORE)
+
 dist:
-	@python3 tools/dist.py '$(LOG)' dist $(PROGRAM) $(STORE)
+	@python3 tools/dist.py $(if $(KEY),--key '$(KEY)') '$(LOG)' dist $(PROGRAM) $(STORE)
+
+packages:
+	@python3 tools/packages.py $(if $(KEY),--key '$(KEY)') dist/rekhuso-*.tar.gz
+
+release: dist packages
+	@git tag -a "$$(python3 tools/rekhuso --version | cut -d' ' -f2)" -F dist/SHA256SUMS

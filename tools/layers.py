@@ -21,8 +21,8 @@ from typing import TypeVar
 Below = dict[str, set[str]]
 # The modules beside the sub-packages of the tools: above them and below.
 ABOVE, BESIDE = "the command line", "values, files, words"
-# What callers of the package see is of the sub-package from which it comes, and what runs it has no import of its own.
-KNOWN = {"__init__": "program", "__main__": ABOVE}
+# What callers of the package see comes from all of it, and what runs it has no import of its own.
+KNOWN = dict.fromkeys(("__init__", "__main__"), ABOVE)
 Key = TypeVar("Key")
 
 

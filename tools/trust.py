@@ -2,13 +2,15 @@
 """Tells what the proofs stand on: by the log of a gate, of `rt check` or of `rt run`, and by the sources.
 
     trust.py LOG.. > bench/results/trust.md
+    trust.py --sources
 
 Of each log it reads the last line of each crate's check (`logic=proved ..`) and the lines above it that name C
 functions (`axioms CRATE: ..`, or the lists of `--list-axioms`). A check names its crate itself (`crate NAME: ..`), a
 gate before it (`== NAME`); what a gate says of the tests of a crate is passed over. A crate that stands in several logs
 is told by the last: a gate cuts the names of C functions short, which a check by `--list-axioms` behind it tells. Of
 the sources it counts the definitions of `specs/`: all, and those that the contracts of the promises cite, directly or
-by another definition; and the lines of the tools.
+by another definition; those of each crate; and the lines of the tools. With `--sources` it makes anew what that page
+says of the sources, and leaves what logs have told as it is: tests ask for it where the two are apart.
 """
 
 from __future__ import annotations
@@ -36,8 +38,12 @@ PROMISES = {
         *(f"journalstore/src/store.rt {name}" for name in ("append", "checkpoint", "is_running")),
         *(f"journalstore/src/{name}" for name in ("beginning.rt begin", "opening.rt open")),
     ),
-    "headline": ("monitor_laws/src/lib.rt one_history",),
+    "headline": (
+        "monitor_laws/src/lib.rt one_history",
+        *(f"server_laws/src/lib.rt {name}" for name in ("runs_as_one", "prints_as_one", "tells_as_law")),
+    ),
 }
+PAGE = "bench/results/trust.md"
 # What the words of a verdict line mean.
 WORDS = {
     "logic": "each proof of the crate was checked, in this run or in one from which the kit kept it",
@@ -54,6 +60,12 @@ WORDS = {
     "main": "what the program may do: start threads, and wait, so that it need not end",
     "may-wait": "functions that may wait for another thread, and need not return",
 }
+BEGIN = """\
+# What the proofs stand on
+
+By hand, on {today}, by `tools/trust.py` from a log of checks; and from the sources, by `tools/trust.py --sources`,
+whenever these have moved on. `make bench` does not make it anew.
+"""
 # Words whose value is a number of the crate, so that no two are alike.
 COUNTED = {"axioms", "may-wait"}
 HEAD = re.compile(r"^(?:(?:abbrev|unfoldable|pub|record|data|deriving|open|infix\w*) +)*([^\s:({]+)")
@@ -201,6 +213,20 @@ def definitions_told(root: pathlib.Path) -> Iterator[str]:
     yield from table(["promise", "lines", "definitions"], rows)
 
 
+def crates_told(root: pathlib.Path) -> Iterator[str]:
+    """The definitions of each crate, of all that crates.txt names."""
+    counts = {name: [0, 0] for name in crates_of(root)}
+    for name, module in modules(root).items():
+        crate = name.split(".")[1]
+        counts[crate] = [counts[crate][0] + lines_of(module.own.values()), counts[crate][1] + len(module.own)]
+    yield from table(["crate", "lines of definitions", "definitions"], ([name, *own] for name, own in counts.items()))
+
+
+def crates_of(root: pathlib.Path) -> list[str]:
+    """The crates, in their order."""
+    return re.findall(r"^(\w+)\b[^:\n]*:", (root / "crates.txt").read_text(encoding="utf-8"), re.MULTILINE)
+
+
 def tools_told(root: pathlib.Path) -> Iterator[str]:
     """The lines of Python that stand between a cluster and the program."""
     folder = root / "tools" / "rekhuso"
@@ -240,31 +266,65 @@ def functions_told(own: Verdict) -> Iterator[str]:
         yield f"| {library} | {count} | {declared} | {', '.join(names + more)} |"
 
 
+def proved_told(root: pathlib.Path, counts: dict[str, int]) -> Iterator[str]:
+    """How many functions of each crate were proved, and which crates the logs do not have."""
+    yield from table(["crate", "functions"], [*counts.items(), ("all", sum(counts.values()))])
+    missing = [name for name in crates_of(root) if name not in counts]
+    yield f"\nCrates that the logs do not have: {', '.join(missing) or 'none'}."
+
+
+def of_sources(root: pathlib.Path) -> Iterator[tuple[str, str]]:
+    """What the page says of the sources, by its headings."""
+    yield "Definitions that a reader must believe", "\n".join(definitions_told(root))
+    yield "Definitions of each crate", "\n".join(crates_told(root))
+    yield "Python between a cluster and the program", "\n".join(tools_told(root))
+
+
+def of_logs(root: pathlib.Path, verdicts: list[Verdict]) -> Iterator[tuple[str, str]]:
+    """What the page says of the logs, by its headings."""
+    yield "What the verdicts say", "\n".join(words_told(verdicts))
+    yield "Libraries of the kit", "\n".join(libraries_told(root, verdicts))
+    for own in verdicts:
+        if own.functions:
+            yield f"C functions below {own.crate}", "\n".join(functions_told(own))
+    yield "Functions that were proved", "\n".join(
+        proved_told(root, {v.crate: int(v.words["functions"]) for v in verdicts})
+    )
+
+
+def read_again(root: pathlib.Path, page: str) -> Iterator[tuple[str, str]]:
+    """What a page says of logs, by its headings; of the crates that these do not have, by the sources."""
+    anew = {heading for heading, _ in of_sources(root)}
+    for heading, said in re.findall(r"^## ([^\n]*)\n\n(.*?)\n*(?=^## |\Z)", page, re.MULTILINE | re.DOTALL):
+        if heading == "Functions that were proved":
+            rows = re.findall(r"^\| (\w+) \| ([\d,]+) \|$", said, re.MULTILINE)
+            counts = {name: int(count.replace(",", "")) for name, count in rows if name != "all"}
+            own = set(crates_of(root))
+            said = "\n".join(proved_told(root, {name: count for name, count in counts.items() if name in own}))
+        if heading not in anew:
+            yield heading, said
+
+
 def main() -> None:
-    """Puts the page out."""
+    """Puts the page out, or what is of the sources into the one that is there."""
     if len(sys.argv) < 2:
         sys.exit((__doc__ or "").strip())
     root = pathlib.Path(__file__).resolve().parent.parent
-    logs = [pathlib.Path(name).read_text(encoding="utf-8", errors="replace") for name in sys.argv[1:]]
-    verdicts = {own.crate: own for log in logs for own in verdicts_in(log)}
-    programs = [own for own in verdicts.values() if own.functions]
-    print("# What the proofs stand on\n")
-    print(f"By hand, on {datetime.date.today()}, by `tools/trust.py` from a log of checks and from the sources.")
-    print("`make bench` does not make it anew. Crates that the log does not have are not told of.\n")
-    print("## Definitions that a reader must believe\n")
-    print(*definitions_told(root), sep="\n")
-    print("\n## Python between a cluster and the program\n")
-    print(*tools_told(root), sep="\n")
-    print("\n## What the verdicts say\n")
-    print(*words_told([*verdicts.values()]), sep="\n")
-    print("\n## Libraries of the kit\n")
-    print(*libraries_told(root, [*verdicts.values()]), sep="\n")
-    for own in programs:
-        print(f"\n## C functions below {own.crate}\n")
-        print(*functions_told(own), sep="\n")
-    print("\n## Functions that were proved\n")
-    rows = [(own.crate, int(own.words["functions"])) for own in verdicts.values()]
-    print(*table(["crate", "functions"], [*rows, ("all", sum(count for _, count in rows))]), sep="\n")
+    page = root / PAGE
+    if sys.argv[1:] == ["--sources"]:
+        text = page.read_text(encoding="utf-8")
+        date = found[0] if (found := re.findall(r"on ([\d-]{10}),", text)) else "a day that nobody noted"
+        begin, told = BEGIN.format(today=date), read_again(root, text)
+    else:
+        logs = [pathlib.Path(name).read_text(encoding="utf-8", errors="replace") for name in sys.argv[1:]]
+        verdicts = {own.crate: own for log in logs for own in verdicts_in(log)}
+        begin, told = BEGIN.format(today=datetime.date.today()), of_logs(root, [*verdicts.values()])
+    parts = [begin.rstrip(), *(f"## {heading}\n\n{said}" for heading, said in (*of_sources(root), *told))]
+    whole = "\n\n".join(parts) + "\n"
+    if sys.argv[1:] == ["--sources"]:
+        page.write_text(whole, encoding="utf-8")
+    else:
+        sys.stdout.write(whole)
 
 
 if __name__ == "__main__":

@@ -7,8 +7,13 @@ may not be made: status 1 where there is one.
 A run of a rule needs a `Work`, which counts it by a clause, and its searches by a token (a `Tip` of tip). A state makes
 rooms, each with a `Work`, once, when it is opened. It lends them to all that runs rules, and clauses of the state say
 how many runs they have counted together. Runs with another work, and searches with another token, would be counted
-elsewhere, and no contract could tell. So each of these is made in the files that stand here, in one place of each with
-no loop round it, and in no other.
+elsewhere, and no contract could tell. So the call that makes each of these stands in the files that stand here, once in
+each with no loop round it, and in no other; so does the call that opens a monitor, tests aside, and the empty place
+into which a session's follower comes. A function by which one is made is called once by each other one of its file.
+
+This is a search of the text of each file by itself. It sees the names of what makes something, other names for it, and
+macros that make whatever they are given. It does not see how often a function is called from another file, nor what a
+body hides from such a search.
 """
 
 from __future__ import annotations
@@ -32,6 +37,19 @@ FOLLOWERS = {
     "session/src/following.rt": "the follower of a session",
     "library_example/src/main.rt": "a follower as the library has them",
 }
+MONITORS = {
+    "server/src/runs.rt": "the one of a run",
+    "library_example/src/main.rt": "a monitor as the library has them",
+}
+# Where an empty place for a follower is made, which the first line that asks for one fills: with another place a second
+# one would come, whose runs count nowhere. In all files of these crates that speak of one, tests aside.
+PLACES = {
+    "session/src/progress.rt": "what a script has come to",
+    "server/src/playing.rt": "what is left of a session, where nothing was read",
+}
+PLACED_IN = ("session", "server")
+PLACE = r"(?:&mut|[=:])\s*None\b(?!\s*=>)|\.take\(\)|\bmem\s*::"
+TESTS = "integration_tests"
 # What makes something, by its name: the crate that declares it, and where it may be made elsewhere.
 MAKERS: dict[str, tuple[str, dict[str, str]]] = {
     "Work": ("crush", WORKS),
@@ -41,6 +59,7 @@ MAKERS: dict[str, tuple[str, dict[str, str]]] = {
     "Follower": ("monitor", FOLLOWERS),
 }
 CALL = r"\b{0}>?\s*::\s*new\b"
+OPENS = r"\bMonitor\b(?:\s*::\s*<[^;]*?>)?\s*::\s*open\w*"
 # Another name, which stands nowhere outside the crate: of a `use` or a `type`, and the `Self` of an `impl` for it.
 OTHER_NAME = r"\b{0}\s+as\b|\btype\s+\w+\s*=[^;]*\b{0}\b|\bimpl\b[^{{}};]*\bfor\b[^{{}};]*\b{0}\b"
 # A macro that makes whatever it is given.
@@ -73,7 +92,7 @@ def functions_of(file: pathlib.Path) -> dict[str, str]:
 
 
 def is_repeated(file: pathlib.Path, call: str) -> bool:
-    """Whether a loop may stand round a call, or a function that calls itself."""
+    """Whether a loop may stand round a call, or a function that calls itself, or one that comes to it twice."""
     functions = functions_of(file)
     asked = {name for name, text in functions.items() if re.search(call, text)}
     seen: set[str] = set()
@@ -82,7 +101,21 @@ def is_repeated(file: pathlib.Path, call: str) -> bool:
         seen.add(name)
         if name != "new":
             asked |= {other for other, text in functions.items() if re.search(rf"\b{name}\b", text)}
+    if any(len(re.findall(rf"\b{name}\s*\(", text)) > 1 for name in seen - {"new"} for text in functions.values()):
+        return True
     return any(re.search(LOOP if name == "new" else rf"{LOOP}|\b{name}\s*\(", functions[name]) for name in seen)
+
+
+def places(root: pathlib.Path) -> Iterator[tuple[str, str, bool]]:
+    """Where a monitor is opened, and where an empty place for a follower is made, and whether it may be."""
+    for file in sorted((root / "crates").glob("*/src/**/*.rt")):
+        place = file.relative_to(root / "crates").as_posix()
+        crate = place.split("/")[0]
+        if crate not in ("monitor", TESTS) and (opened := times_in(file, OPENS)):
+            yield place, "monitor", place in MONITORS and opened == 1 and not is_repeated(file, OPENS)
+        text = re.sub(r"ghost use .*", "", texts_of(file)[1])
+        if crate in PLACED_IN and re.search(r"\bfollower\b", text) and (found := re.findall(PLACE, text)):
+            yield place, "place for a follower", place in PLACES and len(found) == 1
 
 
 def makers(root: pathlib.Path) -> Iterator[tuple[str, str, bool]]:
@@ -104,7 +137,7 @@ def makers(root: pathlib.Path) -> Iterator[tuple[str, str, bool]]:
 def main() -> int:
     """Tells what is made where it may not be; the status."""
     root = pathlib.Path(sys.argv[1] if len(sys.argv) > 1 else pathlib.Path(__file__).parent.parent)
-    found = list(makers(root))
+    found = [*makers(root), *places(root)]
     wrong = [(place, what) for place, what, may_be in found if not may_be]
     for place, what in wrong:
         print(f"crates/{place}: a {what} that tools/works.py does not allow there, or more than one", file=sys.stderr)

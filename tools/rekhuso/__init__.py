@@ -1,4 +1,5 @@
-"""The proved monitor from Python: `from rekhuso import Monitor`, with tools/ on the path or the package installed.
+"""The proved monitor from Python: `from rekhuso import Monitor`, with tools/ on the path or the package installed; and
+`from rekhuso import CephCluster`, a cluster of Ceph by what its commands print.
 
 The package by role: `commands/` has a module for each command, by its name, and their table; `cluster/` dumps, trees,
 pools, weights, and what a Ceph monitor does with them; `plans/` what the balancer makes of a cluster; `program/` the
@@ -30,18 +31,26 @@ from .version import VERSION as __version__
 TYPE_CHECKING = False
 if TYPE_CHECKING:
     from .faults import Closed, Fault, Refused, Unopened
+    from .library import CephCluster
     from .program.answers import Left, Made, Moved, Up
     from .program.monitor import Monitor
     from .program.session import Session
 
-__all__ = ["Closed", "Fault", "Left", "Made", "Monitor", "Moved", "Refused", "Session", "Unopened", "Up", "__version__"]
+__all__ = ["CephCluster", "Closed", "Fault", "Left", "Made", "Monitor", "Moved", "Refused", "Session", "Unopened", "Up"]
+__all__ += ["__version__"]
 # The module of each name; they come in once they are asked for, so that a command soon begins.
 PLACES = {
     **dict.fromkeys(("Closed", "Fault", "Refused", "Unopened"), "faults"),
     **dict.fromkeys(("Left", "Made", "Moved", "Up"), "program.answers"),
+    "CephCluster": "library",
     "Monitor": "program.monitor",
     "Session": "program.session",
 }
+
+
+def __dir__() -> list[str]:
+    """What the package has, also what has not come in yet."""
+    return sorted({*globals(), *__all__})
 
 
 def __getattr__(name: str) -> object:

@@ -2,17 +2,19 @@
 with.
 
 Status 0: the work is done. Status 1: no; something was refused. Status 2: nothing can be said; the command was used
-wrongly, a file cannot be read or written, or the program is not there. Status 3 is of `verify`, 10 and 11 are of
-`next`. Status 70: a defect of the tools. Status 143 or 129: the command was ended from outside. Ctrl-C ends it as the
-signal ends any program, so that the loop of a shell ends too.
+wrongly, a file cannot be read or written, or the program is not there. Status 3 is of `verify`, 10 is of `next`. Status
+11: not now; the cluster is not at rest. Status 70: a defect of the tools. Status 143 or 129: the command was ended from
+outside. Ctrl-C ends it as the signal ends any program, so that the loop of a shell ends too.
 """
 
 from __future__ import annotations
 
 import argparse
 import contextlib
+import functools
 import gc
 import io
+import json
 import os
 import pathlib
 import signal
@@ -21,12 +23,14 @@ from collections.abc import Callable
 from types import FrameType
 from typing import NoReturn
 
-from . import __version__
-from .commands import COMMANDS, EXAMPLES, module_of
+from .commands import COMMANDS, EXAMPLES, FIRST_OPTIONS, grouped, module_of
 from .commands.arguments import Parser, reading
 from .faults import Fault, Misuse, Trouble
-from .progress import PROGRESS
+from .output.json_output import put_refusal
+from .progress import Progress
+from .running import Object, Run, running
 from .terminal import named_output, quiet_errors, shown
+from .version import VERSION
 
 # What ends a command from outside.
 ENDING = (signal.SIGTERM, signal.SIGHUP)
@@ -37,6 +41,12 @@ DEFECT = 70
 def with_help(words: list[str]) -> list[str]:
     """The words of a command line in which `help` and a command behind it stand for the command's own `--help`."""
     return [*words[1:], "--help"] if words[:1] == ["help"] else words
+
+
+def without_all(words: list[str]) -> tuple[list[str], bool]:
+    """Words for help without `--all`, and whether all of the help is asked for."""
+    is_all = "--all" in words and not {"--help", "-h"}.isdisjoint(words)
+    return [word for word in words if word != "--all"] if is_all else words, is_all
 
 
 def asked_commands(words: list[str]) -> tuple[str, ...]:
@@ -56,11 +66,27 @@ def asked_commands(words: list[str]) -> tuple[str, ...]:
     return COMMANDS
 
 
-def parser(asked: tuple[str, ...] = COMMANDS) -> argparse.ArgumentParser:
-    """The command line: one parser with a subcommand for each module of the commands that are asked for."""
+def first_help(own: argparse.ArgumentParser, command: str) -> str:
+    """The first screen of the help of a command; what makes it comes in here, as few ask for it."""
+    from .commands.help_words import first_screen
+
+    return first_screen(own, FIRST_OPTIONS[command], f"rekhuso {EXAMPLES[command]}")
+
+
+def top_help(own: argparse.ArgumentParser, about: dict[str, str]) -> str:
+    """The help of the command line, with what each command does."""
+    from .commands.help_words import all_commands
+
+    return all_commands(own, about, grouped())
+
+
+def parser(asked: tuple[str, ...] = COMMANDS, is_all: bool = True) -> argparse.ArgumentParser:
+    """The command line: one parser with a subcommand for each module of the commands that are asked for. Their help is
+    all of it, or the first screen.
+    """
     about = "Tools beside osdmapd, for people with a cluster. `rekhuso help COMMAND` tells the use of each."
     top = Parser(prog="rekhuso", description=about)
-    top.add_argument("--version", action="version", version=f"rekhuso {__version__}")
+    top.add_argument("--version", action="version", version=f"rekhuso {VERSION}", help="tell the version")
     about = "the built program (else that which REKHUSO_PROGRAM names, that of this repository, or of PATH)"
     top.add_argument("--program", type=pathlib.Path, help=about)
     commands = top.add_subparsers(dest="command", required=True, metavar="COMMAND")
@@ -69,6 +95,11 @@ def parser(asked: tuple[str, ...] = COMMANDS) -> argparse.ArgumentParser:
     for command, own in commands.choices.items():
         own.epilog = f"for example:\n\n    rekhuso {EXAMPLES[command]}"
         reading(own).add_argument("--program", type=pathlib.Path, default=argparse.SUPPRESS, help=about)
+        if not is_all:
+            own.made_help = functools.partial(first_help, own, command)
+    if asked == COMMANDS:
+        told = {own.dest: own.help or "" for own in commands._choices_actions}
+        top.made_help = functools.partial(top_help, top, told)
     return top
 
 
@@ -116,12 +147,12 @@ def defect_line(fault: BaseException) -> str:
         file = at.tb_frame.f_code.co_filename
         where = f" at {os.path.relpath(file, own)}:{at.tb_lineno}" if file.startswith(own) else where
         at = at.tb_next
-    versions = f"rekhuso {__version__}, Python {sys.version.split()[0]}"
+    versions = f"rekhuso {VERSION}, Python {sys.version.split()[0]}"
     text = " ".join(str(fault).split())[:200]
     return f"a defect of the tools ({versions}): {type(fault).__name__}{where}: {text}"
 
 
-class Ended(BaseException):
+class EndedBySignal(BaseException):
     """A signal that ends the command from outside: what it has begun is put away before it does."""
 
 
@@ -129,7 +160,7 @@ def end_by_signal(number: int, _: FrameType | None) -> NoReturn:
     """Ends the command in order. Once it does, a signal more ends it at once."""
     for other in ENDING:
         signal.signal(other, signal.SIG_DFL)
-    raise Ended(number)
+    raise EndedBySignal(number)
 
 
 def set_interrupt(old: object, new: signal.Handlers | Callable[[int, FrameType | None], object]) -> bool:
@@ -147,20 +178,50 @@ def set_signals() -> None:
             signal.signal(number, end_by_signal)
 
 
+def work_of(options: argparse.Namespace) -> int:
+    """Does the work of a command: its status. A fault goes on, and where JSON is asked for it is told so too, but for
+    one of use.
+    """
+    try:
+        return int(options.work(options) or 0)
+    except Fault as fault:
+        if getattr(options, "json", False) and not isinstance(fault, Misuse):
+            put_refusal(options.command, fault)
+            put_out()
+        raise
+
+
+def on_errors(line: str) -> None:
+    """Puts a line out on standard error."""
+    print(line, file=sys.stderr)
+
+
+def on_output(value: Object) -> None:
+    """Puts an object out on standard output."""
+    print(json.dumps(value, indent=1))
+
+
+def asked_work(words: list[str], progress: Progress) -> int:
+    """Does what some words ask for, and tells the status. Faults and OSError go on to who asked."""
+    try:
+        words, is_all = without_all(words)
+        options = parser(asked_commands(words), is_all).parse_args(words)
+    except SystemExit as end:  # Help, or the version.
+        return int(end.code or 0)
+    if sys.stderr.isatty() and options.command != "shell" and os.environ.get("TERM") != "dumb":
+        progress.begin(options.command)
+    try:
+        return work_of(options)
+    except Misuse as fault:
+        raise fault.of_command(f"rekhuso {options.command}") from None
+    finally:
+        progress.end()
+
+
 def run() -> int:
     """Does what the words of the command line ask for, and tells the status. Faults and OSError go on to who asked."""
-    try:
-        words = with_help(sys.argv[1:])
-        options = parser(asked_commands(words)).parse_args(words)
-        if sys.stderr.isatty() and options.command != "shell" and os.environ.get("TERM") != "dumb":
-            PROGRESS.begin(options.command)
-        status = int(options.work(options) or 0)
-    except SystemExit as end:  # Of the parser: help, the version, or an error of use that it has told.
-        status = int(end.code or 0)
-    except Misuse as fault:
-        raise Misuse(f"rekhuso {options.command}: error: {fault} (--help tells the use)") from None
-    finally:
-        PROGRESS.end()
+    with running(Run(on_errors, on_output)) as own:
+        status = asked_work(with_help(sys.argv[1:]), Progress(own))
     put_out()
     return status
 
@@ -173,7 +234,7 @@ def done() -> tuple[list[str], int]:
         return [], run()
     except Fault as fault:
         return fault.lines, fault.status
-    except Ended as end:
+    except EndedBySignal as end:
         return [], 128 + int(end.args[0])
     except BrokenPipeError:
         return [], end_by(signal.SIGPIPE)

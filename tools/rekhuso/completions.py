@@ -1,4 +1,4 @@
-"""What bash and zsh complete behind `rekhuso`: its commands, the options of each, and files."""
+"""What bash, zsh and fish complete behind `rekhuso`: its commands, the options of each, and files."""
 
 from __future__ import annotations
 
@@ -55,7 +55,13 @@ _rekhuso() {
             esac ;;
     esac
 }
-_rekhuso "$@"
+# A folder of fpath has it as a function; where it is sourced, it is tied to the command.
+if [[ $funcstack[1] == _rekhuso ]]; then _rekhuso "$@"; else compdef _rekhuso rekhuso; fi
+"""
+FISH = """# What fish completes behind rekhuso; made of its own options.
+complete -c rekhuso -f -n __fish_use_subcommand -a help -d 'tells the use of a command'
+complete -c rekhuso -f -n '__fish_seen_subcommand_from help' -a '%(names)s'
+%(lines)s
 """
 
 
@@ -142,3 +148,28 @@ def zsh() -> str:
         "names": "\n".join(f"                '{name}:{quoted(about)}'" for name, about in told_names(commands)),
         "commands": "\n".join(map(zsh_case, commands)),
     }
+
+
+def fish_quoted(text: str) -> str:
+    """A text between fish's quotes."""
+    return "'" + text.replace("\\", "\\\\").replace("'", "\\'") + "'"
+
+
+def fish_option(option: Option, condition: str) -> str:
+    """An option as fish's `complete` has it: behind one without a value come others, behind one with a value a file, a
+    folder or nothing.
+    """
+    names = [f"-l {word[2:]}" if word.startswith("--") else f"-s {word[1:]}" for word in option.words]
+    folder = " -x -a '(__fish_complete_directories)'" if is_folder(option) else ""
+    value = "" if not option.values else folder or (" -r -F" if is_file(option) else " -x")
+    return f"complete -c rekhuso -n {condition} {' '.join(names)}{value} -d {fish_quoted(option.about)}"
+
+
+def fish() -> str:
+    """What fish reads."""
+    lines, commands = [fish_option(option, "__fish_use_subcommand") for option in options_in(top())], uses()
+    for use in commands:
+        lines.append(f"complete -c rekhuso -f -n __fish_use_subcommand -a {use.name} -d {fish_quoted(use.about)}")
+        condition = f"'__fish_seen_subcommand_from {use.name}'"
+        lines += [fish_option(option, condition) for option in options_in(use.parser)]
+    return FISH % {"names": " ".join(use.name for use in commands), "lines": "\n".join(lines)}

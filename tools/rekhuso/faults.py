@@ -1,4 +1,6 @@
-"""Why a command ends without what was asked for, and the status of each: 1 is no, 2 that nothing can be said."""
+"""Why a command ends without what was asked for, with the status and the code of each: 1 is no, 2 that nothing can be
+said.
+"""
 
 from __future__ import annotations
 
@@ -6,7 +8,7 @@ from __future__ import annotations
 class Fault(Exception):
     """One line or several, each of which says one thing that is wrong."""
 
-    status = 1
+    status, code = 1, "refused"
 
     def __init__(self, *lines: str) -> None:
         """Takes the lines as they are told, one at least."""
@@ -19,17 +21,41 @@ class Trouble(Fault):
     another than was asked for; a program that is not there, or is another.
     """
 
-    status = 2
+    status, code = 2, "trouble"
 
 
 class Misuse(Trouble):
     """A command used wrongly: words that mean nothing, whatever the files say."""
 
+    code = "use"
+
+    def of_command(self, name: str) -> Misuse:
+        """The same with the name of the command before it."""
+        return Misuse(f"{name}: error: {self} (--help tells the use)")
+
 
 class Untold(Fault):
     """Too little is told to say anything."""
 
-    status = 3
+    status, code = 3, "untold"
+
+
+class Wait(Fault):
+    """What is not done while a cluster is not at rest: amid an outage, while data moves, or while a pool grows."""
+
+    status, code = 11, "wait"
+
+
+class Changed(Fault):
+    """A cluster that is no longer the one for which something was made."""
+
+    code = "changed"
+
+
+class Misjudged(Fault):
+    """What the program judges to be another thing than is told: a defect of the tools."""
+
+    status, code = 70, "misjudged"
 
 
 class Closed(Trouble):

@@ -9,15 +9,18 @@ import os
 import pathlib
 import re
 import shutil
+import stat
 import sys
 import zlib
-from collections.abc import Mapping
-from functools import lru_cache
-from typing import Any, Dict
+from collections.abc import Callable, Mapping
+from functools import lru_cache, wraps
+from typing import Any, Dict, TypeVar, cast
 
 from .faults import Misuse, Trouble
+from .running import RUN
 
 JsonObject = Dict[str, Any]
+Found = TypeVar("Found")
 # How a file begins that gzip has packed (RFC 1952), and how texts begin of another form than UTF-8.
 GZIP, GZIP_BITS = b"\x1f\x8b", 31
 FORMS = {
@@ -40,15 +43,97 @@ def standard_input() -> bytes:
     return sys.stdin.buffer.read() if isinstance(sys.stdin, io.TextIOWrapper) else sys.stdin.read().encode()
 
 
-@lru_cache(maxsize=None)
+class InMemory(str):
+    """What a caller of Python gives in place of a file: the name by which faults tell it, and what it holds. It is
+    alike to itself alone, whatever the names are.
+    """
+
+    data: bytes
+    made: dict[object, Any]
+
+    def __str__(self) -> str:
+        """It itself, so that it goes wherever a path does."""
+        return self
+
+    def __eq__(self, other: object) -> bool:
+        """Whether it is the other."""
+        return self is other
+
+    def __ne__(self, other: object) -> bool:
+        """Whether it is not the other."""
+        return self is not other
+
+    def __hash__(self) -> int:
+        """Its own."""
+        return id(self)
+
+
+def in_memory(name: str, value: object) -> InMemory:
+    """What stands in place of a file of a name: bytes or a text as they are, or else a value as JSON has it."""
+    found = InMemory(name)
+    found.data = (
+        value if isinstance(value, bytes) else (value if isinstance(value, str) else json.dumps(value)).encode()
+    )
+    found.made = {}
+    return found
+
+
 def piped(path: str) -> bytes:
-    """All of a pipe, which is read once, and may be asked for again. OSError where it cannot be read."""
+    """All of a pipe, which a run reads once, and may ask for again. OSError where it cannot be read."""
+    run = RUN.get()
+    if run is not None and path in run.pipes:
+        return run.pipes[path]
     with open(path, "rb") as file:
-        return file.read()
+        found = file.read()
+    if run is not None:
+        run.pipes[path] = found
+    return found
+
+
+def stamp_of(path: str) -> object:
+    """What tells a file from what stood at its path before: its place on the disk, its size and its times. None of what
+    is no file, which a run reads once.
+    """
+    try:
+        own = os.stat(path)
+    except OSError:
+        return None
+    is_file = stat.S_ISREG(own.st_mode)
+    return (own.st_dev, own.st_ino, own.st_size, own.st_mtime_ns, own.st_ctime_ns) if is_file else None
+
+
+def remembered(most: int) -> Callable[[Callable[[str], Found]], Callable[[str], Found]]:
+    """Has a function remember what it made of so many files, each as long as it is the same file."""
+
+    def of(read: Callable[[str], Found]) -> Callable[[str], Found]:
+        """The function that remembers."""
+
+        @lru_cache(maxsize=most)
+        def kept(path: str, stamp: object) -> Found:
+            """What is made of a file."""
+            return read(path)
+
+        @wraps(read)
+        def found(path: str) -> Found:
+            """What was made of it, or is made now."""
+            stamp = None if isinstance(path, InMemory) else stamp_of(path)
+            if stamp is not None:
+                return kept(path, stamp)
+            run = RUN.get()
+            made = path.made if isinstance(path, InMemory) else {} if run is None else run.made
+            if (read, path) not in made:
+                made[read, path] = read(path)
+            return cast(Found, made[read, path])
+
+        return found
+
+    return of
 
 
 def bytes_of(path: str) -> bytes:
     """What a file holds, or standard input where the path is `-`. A fault where it cannot be read."""
+    if isinstance(path, InMemory):
+        return path.data
     try:
         if path == "-":
             return standard_input()
@@ -75,13 +160,19 @@ def unpacked(path: str, data: bytes) -> bytes:
     return b"".join(found)
 
 
+def unpacked_bytes(path: str) -> bytes:
+    """What a file holds, or standard input where the path is `-`, also of one that gzip has packed. A fault where it
+    cannot be read.
+    """
+    data = bytes_of(path)
+    return unpacked("standard input" if path == "-" else path, data) if data.startswith(GZIP) else data
+
+
 def text_of(path: str) -> str:
     """The text of a file, or of standard input where the path is `-`, also of one that gzip has packed. A fault where
     it cannot be read or is no UTF-8.
     """
-    data, told = bytes_of(path), "standard input" if path == "-" else path
-    if data.startswith(GZIP):
-        data = unpacked(told, data)
+    data, told = unpacked_bytes(path), "standard input" if path == "-" else path
     if not data:
         raise Trouble(f"{told}: empty")
     for begin, form in FORMS.items():

@@ -4,12 +4,12 @@ command.
 
 from __future__ import annotations
 
-from . import __version__
 from .commands import EXAMPLES
-from .completions import bash, zsh
+from .completions import bash, fish, zsh
 from .uses import Option, Use, option_groups, options_in, top, uses
+from .version import VERSION
 
-# The statuses of all commands, and those of single ones, as the pages of Ceph's people have them too (docs/CEPH.md).
+# The statuses of all commands, and those of single ones, as the reference has them too (docs/COMMANDS.md).
 STATUSES = (
     ("0", "The work is done."),
     ("1", "No: a map, a change, a cluster or a plan is refused, or something is not as it is to be."),
@@ -41,7 +41,7 @@ def status_text(command: str = "") -> str:
 
 def head(name: str, about: str) -> str:
     """What a page begins with."""
-    return f'.TH {name.upper()} 1 "" "rekhuso {__version__}" ""\n.SH NAME\n{roff(name)} \\- {roff(about)}\n'
+    return f'.TH {name.upper()} 1 "" "rekhuso {VERSION}" ""\n.SH NAME\n{roff(name)} \\- {roff(about)}\n'
 
 
 def use_lines(use: Use) -> list[str]:
@@ -106,6 +106,7 @@ def shared() -> dict[str, str]:
     return {
         "share/bash-completion/completions/rekhuso": bash(),
         "share/zsh/site-functions/_rekhuso": zsh(),
+        "share/fish/vendor_completions.d/rekhuso.fish": fish(),
         "share/man/man1/rekhuso.1": first_page(),
         **pages,
     }

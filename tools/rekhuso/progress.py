@@ -12,6 +12,7 @@ import threading
 import time
 from typing import TextIO
 
+from .running import Run
 from .terminal import Shown
 
 # Seconds until a command is a long one, and between two looks at what it does.
@@ -29,9 +30,9 @@ def columns() -> int:
 class Progress:
     """What a command does at present, and whether that stands on the terminal."""
 
-    def __init__(self) -> None:
-        """Tells nothing until it is begun."""
-        self.words, self.command, self.is_shown = "", "", False
+    def __init__(self, run: Run) -> None:
+        """Tells nothing of a run until it is begun."""
+        self.run, self.command, self.is_shown = run, "", False
         self.since, self.lock, self.ended = 0.0, threading.Lock(), threading.Event()
 
     def begin(self, command: str) -> None:
@@ -47,7 +48,7 @@ class Progress:
             seconds = time.monotonic() - self.since
             if seconds >= LONG:
                 with self.lock:
-                    line = f"{self.command}: {self.words or 'at work'}, {seconds:.0f} s"
+                    line = f"{self.command}: {self.run.doing or 'at work'}, {seconds:.0f} s"
                     self.put(f"\r{line[: columns() - 1]}\x1b[K")
                     self.is_shown = True
 
@@ -89,11 +90,3 @@ def erasing(stream: TextIO, progress: Progress) -> TextIO:
     found = Erasing(stream.detach(), encoding="utf-8", errors=errors, line_buffering=is_by_line)
     found.progress, found.is_terminal = progress, is_terminal
     return found
-
-
-PROGRESS = Progress()
-
-
-def doing(words: str) -> None:
-    """The command does something else from now on."""
-    PROGRESS.words = words

@@ -5,6 +5,7 @@ it, is shown and not sent.
 from __future__ import annotations
 
 import io
+import os
 import re
 from typing import Any, TextIO
 
@@ -75,6 +76,19 @@ def over(stream: TextIO, kind: type[io.FileIO]) -> TextIO:
     KEPT.append(stream)
     raw = kind(stream.fileno(), "w", closefd=False)
     return io.TextIOWrapper(io.BufferedWriter(raw), encoding="utf-8", errors=errors, line_buffering=by_line)
+
+
+def columns_of(stream: TextIO) -> int:
+    """So many columns has the terminal to which a stream goes; 0 where it goes to none, or to one that may not show
+    what is beyond ASCII.
+    """
+    words = [os.environ.get(name, "") for name in ("LC_ALL", "LC_CTYPE", "LANG")]
+    is_wide = "utf" in next(filter(None, words), "").lower()
+    try:
+        is_shown = stream.isatty() and is_wide and os.environ.get("TERM") != "dumb"
+        return os.get_terminal_size(stream.fileno()).columns if is_shown else 0
+    except (OSError, ValueError):
+        return 0
 
 
 def named_output(stream: TextIO) -> TextIO:

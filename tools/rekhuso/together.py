@@ -6,11 +6,13 @@ SCRIPT is what `hold --to FILE` wrote, whole and as it is, or all parts of `hold
 the compiled CRUSH map that it was made for. A hold behind a change that is made is given without one; a script of
 `hold --undo` with the CRUSH map from before, or without any. A monitor gathers what it is told for
 some time (paxos_propose_interval) into one map, and looks at exceptions only when that map is made. The interval of the
-leading monitor is made longer for as long as this takes.
+leading monitor is made longer for as long as this takes. It is asked which commands it has taken; once it has all, the
+map is made at once. Its settings are put back whatever comes between.
 
 Before anything is given, the script is asked whether it is whole, the file whether it is the CRUSH map that the hold
 was made for, and the cluster whether it is the one that was dumped and takes pairs at all. The pairs come first, and
 the CRUSH map only where none was refused. Then the cluster is asked for each exception and for the set of each group.
+Where the CRUSH map stands and pairs do not, as when the leading monitor ends meanwhile, these are given once more.
 norebalance is unset where all stand, and only if it was set here. Otherwise a line tells how the cluster stands.
 
 Alone of all tools this one speaks to a cluster. The file runs by itself on Python 3.6 or later with librados' Python
@@ -30,30 +32,45 @@ import signal
 import struct
 import sys
 import threading
+import time
 from concurrent.futures import FIRST_COMPLETED, Future, ThreadPoolExecutor, wait
-from typing import Any, Callable, Dict, Iterable, Iterator, List, NamedTuple, NoReturn, Optional, Set, Tuple
+from typing import Any, Callable, Dict, Iterable, Iterator, List, NamedTuple, NoReturn, Optional, Sequence, Set, Tuple
 
-INTERVAL, FLAG = "paxos_propose_interval", "norebalance"
+# For how long a monitor gathers behind a map, and how long at least; and what keeps data where it is.
+INTERVAL, LEAST, FLAG = "paxos_propose_interval", "paxos_min_wait", "norebalance"
 # How long an answer may take, in seconds; how much of the stack a thread needs that waits for one; and how many ask.
 PATIENCE, STACK, ASKING = 120, 256 * 1024, 16
-# For how long refusals are waited for before the CRUSH map follows, in seconds.
-PAUSE = 1.0
-# The signals that end this in order.
+# How long it takes until a monitor is asked again what it has taken, and for how long refusals of one are waited for
+# that does not tell it, in seconds.
+AGAIN, PAUSE = 0.05, 1.0
+# Below which key of a cluster those stand who give to it.
+CLAIMS = "rekhuso/giver/"
+# What a command waits for that is taken, in monitors up to Ceph 17 and in later ones.
+TAKEN = "wait_for_finished_proposal", "wait_for_commit"
+# The signals that end this in order, and what is told of one.
+INTERRUPTED = "interrupted"
 SIGNALS = (signal.SIGINT, signal.SIGTERM, signal.SIGHUP)
 # How many groups are told by their names.
 MOST = 5
 Words = Dict[str, object]
+SET_CRUSH = {"prefix": "osd setcrushmap"}  # type: Words
 Json = Dict[str, Any]
 Answer = Future  # type: Any
+# A group's explicit set and its pairs; None where it has none.
+Given = Tuple[Optional[Sequence[int]], Optional[Sequence[int]]]
 
 SUM = "[0-9a-f]{64}"
+KINDS = "plan of reads", "plan", "hold", "release", "drain", "preparation"
+# What a script says of itself; the end, what else than the CRUSH map decides where groups lie, older ones have not.
 HEAD = re.compile(
-    rf"# rekhuso: (hold|undo of a hold), ([0-9]+) commands, part ([0-9]+) of ([0-9]+); epoch ([0-9]+), fsid (\S+), "
-    rf"crush_version ([0-9]+|-); CRUSH map ({SUM}|-), then ({SUM}|-|command)"
+    rf"# rekhuso: ((?:undo of a )?(?:{'|'.join(KINDS)})), ([0-9]+) commands, part ([0-9]+) of ([0-9]+); "
+    rf"epoch ([0-9]+), fsid (\S+), crush_version ([0-9]+|-); CRUSH map ({SUM}|-), then ({SUM}|-|command)"
+    rf"(?:; pools ([0-9,]+|-), sizes ({SUM}|-), reweights ({SUM}|-), exceptions ({SUM}|-))?"
 )
 GOES = re.compile(r"# rekhuso: goes: ([0-9]+\.[0-9a-f]+) \[([0-9none,]*)\]")
 END = re.compile(rf"# rekhuso: end, sha256 ({SUM})")
-POOL = re.compile(r"has '\^pool ([0-9]+) \.\* pg_num ([0-9]+) pgp_num ([0-9]+) (\[al\])?")
+POOL = re.compile(r"has '\^pool ([0-9]+) \.\* (?:size .* )?pg_num ([0-9]+) pgp_num ([0-9]+) (\[al\])?")
+OPERATION = re.compile(r"mon_command\((.*) v [0-9]+\)")
 COMMAND = re.compile(r"ceph osd ((?:rm-)?pg-upmap(?:-items)?) ([0-9]+\.[0-9a-f]+)((?: [0-9]+)*)")
 
 
@@ -226,6 +243,69 @@ class Binary:
         }
 
 
+# What else decides where groups lie: by lines as `ceph osd dump` prints them, and what finds these
+
+
+REWEIGHTS = "^osd[.][0-9]+ | (in|out) +weight [^ ]+"
+EXCEPTIONS = "pg_upmap", "pg_upmap_items"
+# What stands in a dump for no OSD.
+NOBODY = 2**31 - 1
+
+
+def lines_sum(lines: Iterable[str]) -> str:
+    """The sum of lines, as `sha256sum` has it."""
+    return hashlib.sha256("".join(line + "\n" for line in lines).encode()).hexdigest()
+
+
+def reweight_lines(dump: Json) -> List[str]:
+    """The reweight of each OSD, as `grep -o` finds them by REWEIGHTS."""
+    found = []  # type: List[str]
+    for own in sorted(dump["osds"], key=lambda own: int(own["osd"])):
+        state = "in " if own["weight"] else "out"
+        found += [f"osd.{own['osd']} ", f" {state} weight {own['weight']:g}"]
+    return found
+
+
+def osds_in_pairs(pairs: Iterable[Dict[str, int]]) -> List[int]:
+    """The OSDs of pairs, as commands name them."""
+    return [osd for pair in pairs for osd in (pair["from"], pair["to"])]
+
+
+def exceptions_of_dump(dump: Json) -> Dict[str, Given]:
+    """The explicit set and the pairs of each group that has any."""
+    found = {}  # type: Dict[str, Given]
+    for own in dump.get("pg_upmap", []):
+        found[own["pgid"]] = (own["osds"], None)
+    for own in dump.get("pg_upmap_items", []):
+        found[own["pgid"]] = (found.get(own["pgid"], (None, None))[0], osds_in_pairs(own["mappings"]))
+    return found
+
+
+def exception_lines(own: Dict[str, Given], is_asked: Callable[[str], bool]) -> List[str]:
+    """The exceptions of the groups that are asked for, in the order of a dump."""
+    groups = sorted(filter(is_asked, own), key=place_of)
+    kinds = [(kind, [(group, own[group][at]) for group in groups]) for at, kind in enumerate(EXCEPTIONS)]
+    return [
+        f"{kind} {group} [{','.join(str(NOBODY if osd is None else osd) for osd in osds)}]"
+        for kind, found in kinds
+        for group, osds in found
+        if osds is not None
+    ]
+
+
+def place_of(group: str) -> Tuple[int, int]:
+    """Where a group stands among all."""
+    pool, number = group.split(".")
+    return int(pool), int(number, 16)
+
+
+def size_lines(dump: Json, pools: Iterable[int]) -> List[str]:
+    """The size and the rule of each of some pools."""
+    chosen = set(pools)
+    own = {pool["pool"]: f"{pool['size']} {pool['crush_rule']}" for pool in dump["pools"] if pool["pool"] in chosen}
+    return [f"{number} {own.get(number, 'gone')}" for number in sorted(chosen)]
+
+
 # Scripts
 
 
@@ -240,6 +320,31 @@ class Command(NamedTuple):
         """As a monitor takes it."""
         own = {"prefix": "osd " + self.word, "pgid": self.group}  # type: Words
         return dict(own, id=self.osds) if self.osds else own
+
+
+class Beside(NamedTuple):
+    """What else than the CRUSH map a script was made for: its pools, and the sums of their sizes and rules, of the
+    reweights and of the exceptions; None by older tools, and - where any will do.
+    """
+
+    pools: Optional[str]
+    sizes: Optional[str]
+    reweights: Optional[str]
+    exceptions: Optional[str]
+
+    def unlike(self, dump: Json) -> List[str]:
+        """What of it a cluster has otherwise."""
+        numbers = (self.pools or "").replace("-", "").split(",")
+        own = {
+            "the size or the rule of a pool": lines_sum(
+                size_lines(dump, [int(number) for number in numbers if number])
+            ),
+            "a reweight": lines_sum(reweight_lines(dump)),
+            "an exception": lines_sum(
+                exception_lines(exceptions_of_dump(dump), lambda group: group.split(".")[0] in numbers)
+            ),
+        }
+        return [what for (what, found), told in zip(own.items(), self[1:]) if told not in (None, "-", found)]
 
 
 class Script(NamedTuple):
@@ -257,6 +362,7 @@ class Script(NamedTuple):
     then: str
     goes: Dict[str, List[Optional[int]]]
     pools: Dict[int, Tuple[int, int, bool]]
+    beside: Beside
 
 
 def set_in(text: str) -> List[Optional[int]]:
@@ -279,19 +385,26 @@ def lines_of(text: str) -> List[str]:
     return lines[1:]
 
 
+def commands_among(lines: Iterable[str]) -> List[Command]:
+    """The commands on exceptions among lines."""
+    found = [own for own in map(COMMAND.fullmatch, lines) if own]
+    return [Command(own.group(1), own.group(2), list(map(int, own.group(3).split()))) for own in found]
+
+
 def part_in(text: str) -> Tuple[Script, int, int]:
     """A part of a hold, which number it has, and of how many. A Stop where it is none, or not whole."""
     lines = lines_of(text)
     heads = [found for found in map(HEAD.fullmatch, lines) if found]
-    kind, count, part, parts, epoch, fsid, version, crush, then = heads[0].groups()
-    found = [own for own in map(COMMAND.fullmatch, lines) if own]
-    if len(heads) > 1 or len(found) != int(count):
-        raise Stop(f"it has {len(found)} commands, and its head says {count}")
-    commands = [Command(own.group(1), own.group(2), list(map(int, own.group(3).split()))) for own in found]
+    kind, count, part, parts, epoch, fsid, version, crush, then, *beside = heads[0].groups()
+    if not kind.endswith("hold"):
+        raise Stop(f"it is no hold: it is of kind {kind}")
+    commands = commands_among(lines)
+    if len(heads) > 1 or len(commands) != int(count):
+        raise Stop(f"it has {len(commands)} commands, and its head says {count}")
     goes = {own.group(1): set_in(own.group(2)) for own in map(GOES.fullmatch, lines) if own}
     asked = [tuple(own.groups()) for own in map(POOL.match, lines) if own]
     pools = {int(own[0]): (int(own[1]), int(own[2]), bool(own[3])) for own in asked}
-    script = Script(kind == "hold", commands, int(epoch), fsid, version, crush, then, goes, pools)
+    script = Script(kind == "hold", commands, int(epoch), fsid, version, crush, then, goes, pools, Beside(*beside))
     return script, int(part), int(parts)
 
 
@@ -301,7 +414,8 @@ def joined(parts: List[Tuple[Script, int, int]]) -> Script:
     if [number for _, number, _ in parts] != list(range(1, count + 1)):
         raise Stop(f"it is part {parts[-1][1]} of {count}: a hold is given whole, all its parts in their order")
     for own, _, of in parts:
-        if of != count or own._replace(commands=[], pools={}) != first._replace(commands=[], pools={}):
+        own_head, first_head = (one._replace(commands=[], pools={}) for one in (own, first))
+        if of != count or own_head != first_head:
             raise Stop("it is not of the same hold as the parts before it")
     commands = [command for own, _, _ in parts for command in own.commands]
     pools = {number: pool for own, _, _ in parts for number, pool in own.pools.items()}
@@ -357,15 +471,9 @@ class State(NamedTuple):
     crush: str
     sets: Dict[str, List[Optional[int]]]
 
-    def exceptions(self) -> Dict[str, Tuple[Any, Any]]:
+    def exceptions(self) -> Dict[str, Given]:
         """The explicit set and the pairs of each group that has any."""
-        found = {}  # type: Dict[str, Tuple[Any, Any]]
-        for own in self.dump.get("pg_upmap", []):
-            found[own["pgid"]] = (own["osds"], None)
-        for own in self.dump.get("pg_upmap_items", []):
-            pairs = [osd for pair in own["mappings"] for osd in (pair["from"], pair["to"])]
-            found[own["pgid"]] = (found.get(own["pgid"], (None, None))[0], pairs)
-        return found
+        return exceptions_of_dump(self.dump)
 
     def up(self) -> Set[int]:
         """The OSDs that are up."""
@@ -376,9 +484,9 @@ class State(NamedTuple):
         return FLAG in self.dump.get("flags", "").split(",")
 
 
-def goal_of(commands: Iterable[Command], now: Dict[str, Tuple[Any, Any]]) -> Dict[str, Tuple[Any, Any]]:
+def goal_of(commands: Iterable[Command], now: Dict[str, Given]) -> Dict[str, Given]:
     """What each group that commands name is to have once they are given."""
-    found = {}  # type: Dict[str, Tuple[Any, Any]]
+    found = {}  # type: Dict[str, Given]
     for own in commands:
         explicit, pairs = found.get(own.group, now.get(own.group, (None, None)))
         osds = own.osds or None
@@ -386,12 +494,12 @@ def goal_of(commands: Iterable[Command], now: Dict[str, Tuple[Any, Any]]) -> Dic
     return found
 
 
-def back_of(group: str, was: Tuple[Any, Any], now: Tuple[Any, Any]) -> List[Command]:
+def back_of(group: str, was: Given, now: Given) -> List[Command]:
     """The commands that bring the exceptions of a group back."""
     found = []
     for word, before, own in zip(("pg-upmap", "pg-upmap-items"), was, now):
         if before != own:
-            found.append(Command(word if before else "rm-" + word, group, before or []))
+            found.append(Command(word if before else "rm-" + word, group, list(before or [])))
     return found
 
 
@@ -427,14 +535,30 @@ class Cluster:
         """The epoch of the OSDMap."""
         return int(self.json("osd dump")["epoch"])
 
-    def interval(self) -> str:
-        """For how long the leading monitor gathers what it is told, in seconds."""
-        answer = self.ask({"prefix": "config get", "var": INTERVAL}, target=self.leader)
-        return str(json.loads(answer)[INTERVAL])
+    def is_there(self) -> bool:
+        """Whether the monitor that has led is one of those that decide."""
+        return self.leader in self.json("quorum_status")["quorum_names"]
 
-    def set_interval(self, seconds: str) -> None:
-        """Makes it gather for so long."""
-        self.ask({"prefix": "config set", "var": INTERVAL, "val": [seconds]}, target=self.leader)
+    def setting(self, name: str) -> str:
+        """What the leading monitor has of a setting, in seconds."""
+        answer = self.ask({"prefix": "config get", "var": name}, target=self.leader)
+        return str(json.loads(answer)[name])
+
+    def put(self, name: str, seconds: str) -> None:
+        """Gives it a setting."""
+        self.ask({"prefix": "config set", "var": name, "val": [seconds]}, target=self.leader)
+
+    def taken(self) -> Optional[Set[str]]:
+        """The commands that the leading monitor has taken for its next map, by their texts; None where it does not
+        tell.
+        """
+        try:
+            found = json.loads(self.ask({"prefix": "ops"}, target=self.leader))["ops"]
+            told = {own["description"]: json.dumps(own["type_data"]) for own in found}
+        except (Stop, ValueError, KeyError, TypeError):
+            return None
+        forms = [(OPERATION.match(text), events) for text, events in told.items()]
+        return {form.group(1) for form, events in forms if form and any(own in events for own in TAKEN)}
 
     def state(self, threads: ThreadPoolExecutor) -> State:
         """How it stands, at one epoch: where a map is made meanwhile, it is asked again."""
@@ -442,8 +566,7 @@ class Cluster:
             dump, crush = self.json("osd dump"), crush_sum(self.json("osd crush dump"))
             groups = [f"{own['pool']}.{at:x}" for own in dump["pools"] for at in range(own["pg_num"])]
             places = threads.map(lambda group: self.json("pg map", pgid=group), groups)
-            none = 2**31 - 1
-            sets = {group: [None if osd == none else osd for osd in own["up"]] for group, own in zip(groups, places)}
+            sets = {group: [None if osd == NOBODY else osd for osd in own["up"]] for group, own in zip(groups, places)}
             if self.json("osd dump")["epoch"] == dump["epoch"]:
                 return State(dump, crush, sets)
 
@@ -471,6 +594,9 @@ def check_cluster(script: Script, state: State) -> None:
             raise Stop(f"it has no group {own.group}: make the script again")
         if not osds.issuperset(own.osds):
             raise Stop(f"it has no osd.{min(set(own.osds) - osds)}: make the script again")
+    changed = script.beside.unlike(dump)
+    if changed:
+        raise Stop(f"{' and '.join(changed)} is another than in the dump: dump again, and make the script again")
 
 
 def check_pools(script: Script, dump: Json) -> None:
@@ -484,6 +610,20 @@ def check_pools(script: Script, dump: Json) -> None:
             if has != (groups, placed) or is_at_rest and aims != (groups, groups, placed):
                 told = f"pool {own['pool']} has no longer {groups} groups placed by {placed}"
                 raise Stop(f"{told}, or is to be split or shrunk: make the script again")
+
+
+Places = Optional[Sequence[Optional[int]]]
+
+
+def erasure_pools_of(dump: Json) -> Set[str]:
+    """The pools whose places each hold a part of their own."""
+    return {str(own["pool"]) for own in dump["pools"] if own["type"] == 3}
+
+
+def is_elsewhere(places: Places, wanted: Places, alive: Set[int], is_erasure: bool) -> bool:
+    """Whether a group has other places than wanted, as far as OSDs are up."""
+    sets = [[osd if osd in alive else None for osd in own or ()] for own in (places, wanted)]
+    return sets[0] != sets[1] if is_erasure else set(sets[0]) - {None} != set(sets[1]) - {None}
 
 
 class Standing(NamedTuple):
@@ -535,6 +675,8 @@ class Giving:
         self.before = cluster.state(threads)
         check_cluster(script, self.before)
         self.is_flagged, self.is_begun, self.made = False, False, 0
+        # What was given once more, and what is told of the way.
+        self.again, self.notes = [], []  # type: Tuple[List[Command], List[str]]
 
     @property
     def is_foretold(self) -> bool:
@@ -546,15 +688,11 @@ class Giving:
         has, was = now.exceptions(), self.before.exceptions()
         goal = goal_of(self.script.commands, was)
         nothing = (None, None)
-        alive = now.up() & self.before.up()
-        erasure = {str(own["pool"]) for own in now.dump["pools"] if own["type"] == 3}
+        alive, erasure = now.up() & self.before.up(), erasure_pools_of(now.dump)
 
-        def differ(group: str, wanted: Optional[List[Optional[int]]]) -> bool:
-            """Whether a group has other places than wanted, as far as OSDs are up."""
-            sets = [[osd if osd in alive else None for osd in own] for own in (now.sets[group], wanted or [])]
-            if group.split(".")[0] in erasure:
-                return sets[0] != sets[1]
-            return set(sets[0]) - {None} != set(sets[1]) - {None}
+        def differ(group: str, wanted: Places) -> bool:
+            """Whether a group has other places than wanted."""
+            return is_elsewhere(now.sets[group], wanted, alive, group.split(".")[0] in erasure)
 
         told = {group: self.script.goes.get(group, self.before.sets.get(group)) for group in now.sets}
         moved = [group for group in now.sets if differ(group, self.before.sets.get(group))]
@@ -567,40 +705,80 @@ class Giving:
             now.crush == self.before.crush,
         )
 
+    def until_taken(self, words: List[Words], waits: List[Answer]) -> bool:
+        """Waits until the leading monitor has taken commands for its next map. It has not where an answer comes before,
+        as where one is refused or a map is made.
+        """
+        wanted = {json.dumps(own) for own in words}
+        while not wait(waits, 0, FIRST_COMPLETED).done:
+            taken = self.cluster.taken()
+            if taken is None:
+                # What was sent before a question has been looked at when that is answered.
+                self.cluster.epoch()
+                return not wait(waits, PAUSE, FIRST_COMPLETED).done
+            if wanted <= taken:
+                return True
+            wait(waits, AGAIN, FIRST_COMPLETED)
+        return False
+
+    def make_map(self) -> None:
+        """Has the leading monitor make a map of what it has taken, at once."""
+        self.cluster.put(LEAST, "0")
+        self.cluster.put(INTERVAL, "0")
+        self.cluster.ask({"prefix": "osd set", "key": FLAG})
+
     def give(self, commands: List[Command], crush: Optional[bytes]) -> None:
         """Gives commands at once, then the CRUSH map where none was refused. A Stop for the first that is refused."""
         threads, waits = ThreadPoolExecutor(len(commands) + 1), []  # type: Tuple[ThreadPoolExecutor, List[Answer]]
-        early = set()  # type: Set[Answer]
+        words = [own.words() for own in commands]
+        is_taken = False
         threading.stack_size(STACK)
         try:
             with postponed_signals():
-                waits += [threads.submit(self.cluster.ask, own.words()) for own in commands]
-            if crush is not None:
-                early = wait(waits, PAUSE, FIRST_COMPLETED).done
+                waits += [threads.submit(self.cluster.ask, own) for own in words]
+            is_taken = self.until_taken(words, waits)
+            if crush is not None and is_taken:
                 with postponed_signals():
-                    waits += [] if early else [threads.submit(self.cluster.ask, {"prefix": "osd setcrushmap"}, crush)]
+                    waits += [threads.submit(self.cluster.ask, SET_CRUSH, crush)]
+                self.until_taken([*words, SET_CRUSH], waits)
+            self.make_map()
             wait(waits)
         finally:
             # Whatever ends this, a signal just here too: only behind the answers it is known what stands.
             try:
                 hold_back_signals()
             finally:
-                wait(waits, PATIENCE)
+                self.end_waiting(waits)
                 threads.shutdown(False)
         for own in waits:
             own.result()
-        if early:
+        if crush is not None and not is_taken:
             raise Stop("a map was made before the CRUSH map was given: try again, with more --seconds")
 
+    def end_waiting(self, waits: List[Answer]) -> None:
+        """Waits for all answers; where some are still to come, the map is made for which they wait."""
+        if wait(waits, 0).not_done:
+            with contextlib.suppress(Stop):
+                if self.cluster.is_there():
+                    self.make_map()
+        wait(waits, PATIENCE)
+
+    def give_again(self, commands: List[Command]) -> None:
+        """Gives commands at once, in as many maps as it takes. A Stop for the first that is refused."""
+        with ThreadPoolExecutor(ASKING) as threads:
+            waits = [threads.submit(self.cluster.ask, own.words()) for own in commands]
+        for own in waits:
+            own.result()
+
     def in_one_map(self, seconds: float) -> None:
-        """Gives all within one map. A Stop where something is refused; the interval is back in any case."""
-        before = self.cluster.interval()
+        """Gives all within one map. A Stop where something is refused; the settings are back in any case."""
+        before = {name: self.cluster.setting(name) for name in (LEAST, INTERVAL)}
         take_signals()
         try:
-            self.cluster.set_interval(str(seconds))
             self.is_flagged = not self.before.has_flag()
             # A map of its own, behind which a whole interval begins.
             self.cluster.ask({"prefix": "osd set", "key": FLAG})
+            self.cluster.put(INTERVAL, str(seconds))
             epoch = self.cluster.epoch()
             self.is_begun = True
             self.give(self.script.commands, self.crush)
@@ -611,20 +789,31 @@ class Giving:
             finally:
                 self.put_back(before)
 
+    def missing(self, goal: Dict[str, Given], now: State) -> List[Command]:
+        """The commands that give groups the exceptions that they are to have and have not."""
+        has, nothing = now.exceptions(), (None, None)
+        return [own for group, to in goal.items() for own in back_of(group, to, has.get(group, nothing))]
+
     def take_back(self) -> None:
         """Brings the exceptions of before back where the CRUSH map is the old one, all at once."""
-        now, was = self.cluster.state(self.threads), self.before.exceptions()
-        has, nothing = now.exceptions(), (None, None)
-        commands = []  # type: List[Command]
-        for group in dict.fromkeys(own.group for own in self.script.commands):
-            commands += back_of(group, was.get(group, nothing), has.get(group, nothing))
-        if commands and now.crush == self.before.crush:
-            self.give(commands, None)
+        now, was, nothing = self.cluster.state(self.threads), self.before.exceptions(), (None, None)
+        goal = {own.group: was.get(own.group, nothing) for own in self.script.commands}
+        if now.crush == self.before.crush:
+            self.give_again(self.missing(goal, now))
+
+    def finish(self) -> None:
+        """Gives the pairs once more that do not stand, where the CRUSH map is the new one."""
+        now = self.cluster.state(self.threads)
+        if self.crush is not None and now.crush == self.script.then:
+            self.again = self.missing(goal_of(self.script.commands, self.before.exceptions()), now)
+            self.give_again(self.again)
 
     def end(self, is_refused: bool) -> Standing:
         """How the cluster stands once what can be taken back is taken back; data may move again where that is well."""
         if is_refused and self.is_begun:
             self.take_back()
+        if self.is_begun:
+            self.finish()
         now = self.cluster.state(self.threads)
         found = self.compared(now)
         self.is_flagged = self.is_flagged and now.has_flag()
@@ -633,14 +822,21 @@ class Giving:
             self.is_flagged = False
         return found
 
-    def put_back(self, before: str) -> None:
-        """Puts the interval back. A Stop where that is refused."""
-        try:
-            if self.cluster.interval() != before:
-                self.cluster.set_interval(before)
-        except Stop as fault:
-            leader = f"mon.{self.cluster.leader}"
-            raise Stop(f"{fault}; {INTERVAL} of {leader} was {before} and is not put back") from None
+    def put_back(self, before: Dict[str, str]) -> None:
+        """Puts the settings back. A Stop where that is refused; a monitor that decides no more has lost them, unless it
+        runs on by itself.
+        """
+        leader, faults = f"mon.{self.cluster.leader}", []
+        for name, seconds in before.items():
+            try:
+                if not self.cluster.is_there():
+                    self.notes.append(f"{leader} is gone: where it runs on, its {name} is to be {seconds}")
+                elif self.cluster.setting(name) != seconds:
+                    self.cluster.put(name, seconds)
+            except Stop as fault:
+                faults.append(f"{fault}; {name} of {leader} was {seconds} and is not put back")
+        if faults:
+            raise Stop("; ".join(faults))
 
 
 class Ended(BaseException):
@@ -685,7 +881,7 @@ def postponed_signals() -> Iterator[None]:
 # The command line
 
 
-OWN_USE = "CEPH_CONF [CRUSH_FILE] SCRIPT.. [--seconds S]"
+OWN_USE = "CEPH_CONF [CRUSH_FILE] SCRIPT.. [--moves N] [--seconds S]"
 
 
 def seconds_in(word: str) -> float:
@@ -699,14 +895,23 @@ def seconds_in(word: str) -> float:
     return found
 
 
+def groups_in(word: str) -> int:
+    """A number of groups; an error of use where it is none."""
+    if not re.fullmatch("[0-9]{1,9}", word):
+        raise argparse.ArgumentTypeError(f"{word}: no number of groups")
+    return int(word)
+
+
 def add_words(own: argparse.ArgumentParser) -> None:
     """The words of the command line."""
     own.add_argument("conf", metavar="CEPH_CONF", help="the configuration by which the cluster is found")
     own.add_argument(
         "files", metavar="FILE", nargs="+", help="the compiled CRUSH map, then `hold`'s script or all its parts"
     )
-    about = "for how long the monitor gathers meanwhile (6 where nothing is said)"
-    own.add_argument("--seconds", metavar="S", type=seconds_in, default=6.0, help=about)
+    about = "give a hold also where so many groups move by it, as it does not hold them"
+    own.add_argument("--moves", metavar="N", type=groups_in, help=about)
+    about = "for how long the monitor gathers meanwhile at most (60 where nothing is said)"
+    own.add_argument("--seconds", metavar="S", type=seconds_in, default=60.0, help=about)
 
 
 def connected(conf: str) -> Any:
@@ -764,27 +969,77 @@ def hold_in(files: List[str]) -> Tuple[Script, List[str]]:
         raise Stop(f"{path}: {fault}") from None
 
 
-def given(conf: str, files: List[str], seconds: float) -> str:
-    """Gives a script, and a CRUSH map with it, and tells in a line what stands. A Stop where not all does."""
+def check_moving(script: Script, path: str, moves: Optional[int]) -> None:
+    """A Stop where other groups move by a hold than it was said: those that are not chosen, or cannot be held. Behind a
+    change that is made already those that it tells of only go back.
+    """
+    count = len(script.goes) if script.then != "-" else 0
+    if script.is_hold and count != (moves or 0):
+        told = (
+            f"{count} groups move by it, as it does not hold them ({some(script.goes)})" if count else "no group moves"
+        )
+        raise Stop(f"{path}: {told}: " + (f"--moves {count} gives it all the same" if count else "leave --moves out"))
+
+
+class Job(NamedTuple):
+    """What is given: a script, the CRUSH map with it, if there is one, and the file of that."""
+
+    script: Script
+    crush: Optional[bytes]
+    crush_files: List[str]
+
+
+def job_in(files: List[str], moves: Optional[int]) -> Job:
+    """What files are to give. A Stop where that is nothing whole, and where other groups move by a hold than it was
+    said.
+    """
     script, crush_files = hold_in(files)
     path = files[-1]
     if script.then == "command":
         raise Stop(f"{path}: commands make its change: sh {path} COMMAND of the change")
     if len(crush_files) > 1 or script.is_hold and not crush_files and script.then != "-":
         raise Stop(f"{path}: give the compiled CRUSH map before it, and nothing else")
-    crush = crush_in(crush_files[0], script) if crush_files else None
-    rados = connected(conf)
+    check_moving(script, path, moves)
+    return Job(script, crush_in(crush_files[0], script) if crush_files else None, crush_files)
+
+
+def check_alone(cluster: Cluster) -> None:
+    """A Stop where another giver of these tools is at work, by the claim that it has put into the cluster. A keyring
+    that may not ask for that sees none.
+    """
+    claims = {}  # type: Json
+    with contextlib.suppress(Stop):
+        claims = cluster.json("config-key dump", key=CLAIMS)
+    for own in map(json.loads, claims.values()):
+        if own["until"] >= time.time():
+            raise Stop(f"another giver is at work: process {own['process']} of {own['host']}, since {own['start']}")
+
+
+def given(conf: str, files: List[str], seconds: float, moves: Optional[int] = None) -> str:
+    """Gives a script, and a CRUSH map with it, and tells in a line what stands. A Stop where not all does, and where
+    more groups move by a hold than it was said.
+    """
+    job, rados = job_in(files, moves), connected(conf)
     try:
-        with ThreadPoolExecutor(ASKING) as threads:
-            giving = Giving(Cluster(rados), script, crush, threads)
-            give_and_end(giving, crush_files, seconds)
+        cluster = Cluster(rados)
+        check_alone(cluster)
+        return given_to(cluster, job, seconds)
     finally:
         rados.shutdown()
-    what = "the CRUSH map and " if crush is not None else ""
+
+
+def given_to(cluster: Cluster, job: Job, seconds: float) -> str:
+    """Gives a job to a cluster, and tells in a line what stands. A Stop where not all does."""
+    with ThreadPoolExecutor(ASKING) as threads:
+        giving = Giving(cluster, job.script, job.crush, threads)
+        give_and_end(giving, job.crush_files, seconds)
+    script = job.script
+    what = "the CRUSH map and " if job.crush is not None else ""
     told = "all groups are where they were" if not script.goes else "all groups are where it was foretold"
     told = told if giving.is_foretold else "all exceptions stand"
     made = f"{giving.made} map{'s' * (giving.made != 1)}"
-    return f"{what}{len(script.commands)} commands in {made}, none refused; {told}"
+    again = f", {len(giving.again)} given once more" if giving.again else ""
+    return "; ".join([f"{what}{len(script.commands)} commands in {made}, none refused{again}", told, *giving.notes])
 
 
 def why_not(giving: Giving, seconds: float) -> str:
@@ -794,7 +1049,7 @@ def why_not(giving: Giving, seconds: float) -> str:
     except Stop as fault:
         return str(fault)
     except BaseException as fault:  # A signal, or what nobody has foreseen: how the cluster stands is told first.
-        return repr(fault) if isinstance(fault, Exception) else "interrupted"
+        return repr(fault) if isinstance(fault, Exception) else INTERRUPTED
     return ""
 
 
@@ -809,13 +1064,14 @@ def give_and_end(giving: Giving, crush_files: List[str], seconds: float) -> None
         raise Stop(f"{why and why + '; '}how the cluster stands is not known: {fault}{flag}") from None
     if old and found.is_over:
         os.remove(old)
-    if found.is_done and not why:
+    if found.is_done and why in ("", INTERRUPTED):
+        giving.notes += ["a signal came meanwhile"] if why else []
         return
     told = "the cluster is as it was" if found.is_as_it_was else found.words()
     if not found.is_over:
         told += f"; {FLAG} is set; to take all back, make the script again with --undo and give it by this"
         told += f" with the CRUSH map {old}" if old else ""
-    raise Stop(f"{why or 'not all stands'}; {told}")
+    raise Stop("; ".join([why or "not all stands", told, *giving.notes]))
 
 
 def main() -> int:
@@ -826,7 +1082,7 @@ def main() -> int:
     own = parser.parse_args()
     try:
         take_signals()
-        print(given(own.conf, own.files, own.seconds))
+        print(given(own.conf, own.files, own.seconds, own.moves))
     except Stop as fault:
         print(fault, file=sys.stderr)
         return 1

@@ -38,7 +38,7 @@ class Advised:
 
 
 # What keeps data where it is where it would move by what is advised.
-HELD = "under norebalance, `hold --at` behind it keeps the data where it is"
+HELD = "under norebalance, `hold --pgs` behind it keeps the data where it is"
 # What stands for the words that take the pools that come in, where some do.
 POOLS = "{pools}"
 # What stands for the words that say how much it moves.
@@ -75,7 +75,10 @@ ADVICES = {
     **dict.fromkeys(("pool-groups", "pool-size"), Advice(f"no map holds it; {POOLS}")),
     **dict.fromkeys(("buckets-plain", "pools-plain", "rules-plain"), Advice(f"{BARE}; {SOME}")),
     **dict.fromkeys(("buckets", "pools", "rules", "groups"), Advice(f"no map holds so many; {SOME}")),
-    "straw-bucket": Advice("`ceph osd crush set-all-straw-buckets-to-straw2` makes them straw2 (Nautilus or later)"),
+    "straw-bucket": Advice(
+        "`ceph osd crush set-all-straw-buckets-to-straw2` makes them straw2 (Nautilus or later), and moves what these "
+        f"place otherwise; {HELD}"
+    ),
     "tunable": Advice(f"`ceph osd crush tunables jewel` sets all of them, and moves data once; {HELD}"),
     "no-tunable": Advice("take the dump by Ceph 10.2 or later"),
     "pool-hashpspool": Advice(

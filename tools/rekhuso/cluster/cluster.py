@@ -38,6 +38,9 @@ class Cluster:
         """
         self.osd_dump, self.crush, self.torn, self.gone = osd_dump, crush_dump, torn, gone or {}
         self.epoch, self.pools = osd_dump["epoch"], osd_dump["pools"]
+        # Where pools were chosen of it: the cluster with all of them, and those that cannot be read.
+        self.whole: Cluster | None = None
+        self.unread: frozenset[int] = frozenset()
 
     # The dumps by numbers and names
 

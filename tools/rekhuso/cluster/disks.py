@@ -10,6 +10,7 @@ from ..faults import Fault
 from ..files import json_of
 from ..values import SLOTS
 from .dump_forms import OSD_DF, misfits
+from .file_kinds import OSD_DF_FILE, check_kind
 from .reports import check_no_report
 from .shares import Shares
 
@@ -66,6 +67,7 @@ def disks_in(path: str) -> Disks:
     that has another form, and for an OSD that stands there twice.
     """
     check_no_report(path, "of disks one by one: give what `ceph osd df -f json` prints")
+    check_kind(path, json_of(path), OSD_DF_FILE)
     value = json_of(path, "nodes")
     nodes = value["nodes"]
     stray = value.get("stray", [])

@@ -91,6 +91,7 @@ OSD_DUMP = {
     "?primary_temp": [object],
     "?pg_upmap_primaries": [dict(GROUP_KEYS, primary_osd=int)],
     "?require_min_compat_client": object,
+    "?require_osd_release": object,
 }
 CRUSH_DUMP = {
     "devices": [{"id": int, "name": str, "?class": str}],

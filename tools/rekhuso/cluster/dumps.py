@@ -8,9 +8,10 @@ from typing import cast
 
 from ..faults import Fault, Trouble
 from ..files import JsonObject, json_of
-from ..progress import doing
+from ..running import doing
 from ..terminal import in_one_line
 from ..values import SLOTS
+from .binary_maps import is_binary_map
 from .cluster import Cluster
 from .dump_forms import (
     CRUSH_DUMP,
@@ -26,6 +27,7 @@ from .dump_forms import (
     with_steps_by_word,
 )
 from .dump_types import CrushDump, OsdDump, Tree
+from .file_kinds import TREE_FILE, check_kind
 from .names import pools_named
 from .reasons.kinds import Against, lines_of
 from .reports import CRUSH_PART, OSD_PART, check_no_report, dump_in_report, is_report_file
@@ -160,6 +162,8 @@ def both_dumps(osd_dump: str, crush_dump: str, tree: str | None = None) -> tuple
         check_no_report(tree, "the reweights of OSDs that were removed: give what `ceph osd tree -f json` prints")
     files += [] if tree is None else [DumpFile(tree, TREE, "")]
     values = objects_of(files)
+    if tree is not None:
+        check_kind(tree, values[2], TREE_FILE)
     maps = [own.path for own, value in zip(files, values) if is_map(value)]
     if maps:
         raise Trouble(*(f"{path}: this is a map, and no dump: give both dumps, or one map alone" for path in maps))
@@ -169,7 +173,8 @@ def both_dumps(osd_dump: str, crush_dump: str, tree: str | None = None) -> tuple
         )
     found = [read_dump(own.place(), value, own.form) for own, value in zip(files, values)]
     osds, crush = cast(OsdDump, found[0][0]), cast(CrushDump, found[1][0])
-    gone = {} if tree is None else gone_in(cast(Tree, found[2][0]), osds)
+    gone = {osd: kept for osd, kept in values[0].get("gone", []) if kept} if is_binary_map(osd_dump) else {}
+    gone = gone if tree is None else gone_in(cast(Tree, found[2][0]), osds)
     return Cluster(osds, crush, found[0][1] | found[1][1], gone), [fault for _, _, faults in found for fault in faults]
 
 
@@ -187,5 +192,8 @@ def chosen_cluster(files: DumpFiles) -> tuple[Cluster, list[Misfit]]:
     and that it needs.
     """
     cluster, faults = both_dumps(files.osd_dump, files.crush_dump, files.tree)
-    cluster = with_pools(cluster, files.pools)
-    return cluster, [fault for fault in faults if fault.concerns(cluster, files.pools is not None)]
+    chosen = with_pools(cluster, files.pools)
+    if files.pools is not None:
+        unread = {fault.pool for fault in faults if fault.pool is not None}
+        chosen.whole, chosen.unread = cluster, frozenset(unread - cluster.sizes.keys())
+    return chosen, [fault for fault in faults if fault.concerns(chosen, files.pools is not None)]

@@ -101,14 +101,3 @@ def sums_by_osd(by_pool: Mapping[int, Mapping[int, float]]) -> dict[int, float]:
         for osd, count in own.items():
             found[osd] += count
     return found
-
-
-def room(trees: list[dict[int, int]], sizes: Mapping[int, float], used: Mapping[int, float], rate: float) -> float:
-    """What a pool may still take until its fullest OSD is full (MAX AVAIL of `ceph df`): the trees of its rule with the
-    weights of their OSDs, the bytes of each OSD, those of them in use, and the bytes that one takes.
-    """
-    found = []
-    for weights in trees:
-        total = sum(weights.values())
-        found += [(FULL * sizes[osd] - used.get(osd, 0)) * total / own for osd, own in weights.items()]
-    return max(min(found, default=0.0), 0.0) / rate

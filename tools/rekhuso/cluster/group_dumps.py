@@ -3,17 +3,17 @@
 from __future__ import annotations
 
 from dataclasses import dataclass
-from functools import lru_cache
 
 from ..faults import Fault
-from ..files import JsonObject, json_of
+from ..files import JsonObject, json_of, remembered
 from ..program.maps import group_key
 from ..values import SLOTS
 from ..words import some
 from .cleanup import NONE
 from .cluster import Cluster
 from .dump_forms import DumpForm, GROUP, misfits
-from .reports import check_no_report
+from .file_kinds import PG_DUMP, check_kind
+from .reports import GROUPS_PART, beside_dumps, check_no_report
 
 # What it tells of each group where its data is asked for.
 ACTING = {"pgid": GROUP, "acting": [int], "?state": str}
@@ -32,13 +32,18 @@ class GroupData:
     torn: list[str]
 
 
-@lru_cache(maxsize=1)
+@remembered(1)
 def pg_dump_in(path: str) -> JsonObject:
-    """The object of a file, which a command may ask for several things, and which is long. A fault where it is a
-    report.
+    """The object of a file, which a command may ask for several things, and which is long; of what `gather` writes the
+    part that tells of groups. A fault where it is a report.
     """
+    own = beside_dumps(path, GROUPS_PART)
+    if own is not None:
+        return {GROUPS_PART: own}
     check_no_report(path, "of groups one by one: give what `ceph pg dump -f json` prints")
-    return json_of(path)
+    value = json_of(path)
+    check_kind(path, value, PG_DUMP)
+    return value
 
 
 def stats_in(path: str, form: DumpForm) -> list[JsonObject]:

@@ -2,13 +2,13 @@
 
 from __future__ import annotations
 
-import sys
 from collections.abc import Iterable
 from dataclasses import dataclass
 
 from ..faults import Fault
 from ..program.map_forms import PLAIN
 from ..program.maps import Map
+from ..running import tell
 from ..values import SLOTS
 from ..words import listed
 from .advice import Advised, advised
@@ -57,7 +57,7 @@ def map_file(part: Cluster) -> str:
 
 def several_words(parts: list[Cluster]) -> str:
     """How a cluster comes in that takes several maps."""
-    pools, all_words = list(map(pool_ids, parts)), f"it takes {len(parts)} maps: --out FOLDER writes all"
+    pools, all_words = list(map(pool_ids, parts)), f"it takes {len(parts)} maps: --to FOLDER writes all"
     if max(map(len, pools)) > LONGEST:
         return f"{all_words}, which have {listed([str(len(part.pools)) for part in parts])} pools"
     return f"{all_words}, {listed([f'--pools {own}' for own in pools])} one each"
@@ -148,6 +148,6 @@ def imported(files: DumpFiles, is_one: bool = False) -> ImportedCluster:
         names = names_of_pools(cluster)
         raise Fault(*(with_pool_names(line, names) for line in found))
     for own in unmatched(cluster):
-        print(own.told(), file=sys.stderr)
+        tell(own.told())
     parts = map_clusters(cluster)
     return ImportedCluster(cluster, parts, [map_of(part) for part in parts])

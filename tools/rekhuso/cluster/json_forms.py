@@ -74,6 +74,19 @@ class UnrestParts(TypedDict):
     why: str
 
 
+class PoolBesideParts(TypedDict):
+    """A pool that `--pools` leaves out: how many groups and places it has, how many of its groups may move, and whether
+    what places them changes; None for what is not known of one that cannot be read.
+    """
+
+    id: int
+    name: str
+    groups: int | None
+    places: int | None
+    may_move: int | None
+    changes: bool
+
+
 class AgainstParts(TypedDict):
     """Why a cluster stays out: the kind by its code, in words, and what is done about it, if that is known."""
 

@@ -4,13 +4,13 @@ have all of their data, so that Ceph's balancer may wait.
 
 from __future__ import annotations
 
-import sys
 from collections.abc import Mapping
 from dataclasses import dataclass
 
-from ..faults import Fault
+from ..faults import Wait
 from ..program.answers import Up
 from ..program.maps import entries_of
+from ..running import tell
 from ..values import SLOTS
 from ..words import counted, share_words
 from .json_forms import MisplacedParts
@@ -80,6 +80,6 @@ def check_misplaced(found: Misplaced | None, is_asked: bool) -> None:
     nonetheless.
     """
     if found is not None and found.share >= MOST and not is_asked:
-        raise Fault(f"{found}; no plan is made: --anyway makes one")
+        raise Wait(f"{found}; no plan is made: --anyway makes one")
     if found is not None:
-        print(found, file=sys.stderr)
+        tell(found)

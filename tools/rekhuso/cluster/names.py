@@ -10,6 +10,7 @@ from ..faults import Fault
 from ..files import is_text, json_of
 from ..program.maps import RuleStep
 from ..terminal import in_one_line
+from .file_kinds import NAMES, check_kind
 
 # Of each kind of thing, names by numbers as texts.
 Names = Dict[str, Dict[str, str]]
@@ -46,6 +47,8 @@ def names_in(path: str | None) -> dict[str, dict[str, str]]:
     is no path. A fault that says the first place where it has another form.
     """
     names = {} if path is None else json_of(path)
+    if path is not None:
+        check_kind(path, names, NAMES)
     for kind in NAME_TABLES:
         own = names.get(kind, {})
         if not isinstance(own, dict):

@@ -2,13 +2,13 @@
 
 from __future__ import annotations
 
-import sys
 from collections.abc import Iterable, Mapping
 from dataclasses import dataclass
 
-from ..faults import Fault
+from ..faults import Wait
 from ..program.answers import Up
 from ..program.maps import Osd, Pool, group_key
+from ..running import tell
 from ..values import SLOTS
 
 
@@ -44,6 +44,6 @@ def outage_of(osds: Iterable[Osd], pools: Iterable[Pool], ups: Mapping[str, Up])
 def check_outage(outage: Outage | None, is_asked: bool) -> None:
     """Tells of an outage on standard error before a plan. A fault where a plan is not asked for nonetheless."""
     if outage is not None and not is_asked:
-        raise Fault(f"{outage}; no plan is made: --anyway makes one")
+        raise Wait(f"{outage}; no plan is made: --anyway makes one")
     if outage is not None:
-        print(outage, file=sys.stderr)
+        tell(outage)

@@ -7,14 +7,16 @@ from collections.abc import Iterable, Mapping
 from dataclasses import dataclass, replace
 
 from ..faults import Fault
-from ..files import json_of
+from ..files import JsonObject, json_of
 from ..program.maps import Pool, groups_in
 from ..terminal import in_one_line
 from ..values import SLOTS
+from .binary_maps import is_binary_map
 from .disks import Disk
 from .dump_forms import DF, misfits
+from .file_kinds import DF_FILE, check_kind
 from .report_data import df_of_report
-from .reports import report_in
+from .reports import DF_PART, beside_dumps, check_no_report, report_in
 
 # The bytes of a weight of 1 in the CRUSH map, where `ceph df` does not tell those of all OSDs.
 UNIT = 2**40
@@ -114,14 +116,29 @@ def why_not_raw(stats: Mapping[str, int]) -> str | None:
     )
 
 
+def df_in(path: str) -> JsonObject:
+    """The object of a file with the output of `ceph df --format json`, or what a report tells of it. A fault where it
+    is another file.
+    """
+    own, report = beside_dumps(path, DF_PART), report_in(path)
+    if isinstance(own, dict):
+        return own
+    if report is not None:
+        return df_of_report(path, report)
+    value = json_of(path)
+    check_kind(path, value, DF_FILE)
+    return json_of(path, "pools")
+
+
 def data_in(path: str | None) -> Data | None:
     """What a file with the output of `ceph df --format json` tells; None where there is no path. A fault for each
     place that has another form, and for a pool that stands there twice.
     """
     if path is None:
         return None
-    report = report_in(path)
-    value = json_of(path, "pools") if report is None else df_of_report(path, report)
+    if is_binary_map(path):
+        check_no_report(path, "of the data of pools: give what `ceph df --format json` prints")
+    value = df_in(path)
     faults = misfits(value, DF, "")
     if faults:
         raise Fault(*(f"{path}: {fault}" for fault in faults))

@@ -6,15 +6,20 @@ w), for the one c by which these come to k, or to as many as there are that weig
 item weigh, weight times reweight. A `chooseleaf` shares its item's places among the OSDs below it, by weight. An OSD's
 reach is the groups of the pool times the product of the p on its way down. Where every p is below 1 it is its share by
 weight. Of several blocks it is their sum, where they share no OSD.
+
+A group that CRUSH has left short, with fewer places than its rule looks for, has none in some bucket that is full, and
+no plan gives it one more. So where buckets are full, such groups count in these as they lie, and what they have beside
+is shared by weight.
 """
 
 from __future__ import annotations
 
 from collections import Counter
-from collections.abc import Iterator, Mapping
+from collections.abc import Iterator, Mapping, Sequence
 from dataclasses import dataclass
 from fractions import Fraction
 from math import lcm, prod
+from typing import NamedTuple
 
 from ..program.maps import Bucket, RuleStep
 from ..values import SLOTS
@@ -66,6 +71,7 @@ class Reach:
         self.buckets, self.weights, self.size = buckets, weights, size
         self.kept: dict[int, int] = {}
         self.full: list[Full] = []
+        self.found: dict[int, Fraction] = {}
 
     def weight(self, item: int) -> int:
         """What the OSDs at or below an item weigh."""
@@ -88,6 +94,11 @@ class Reach:
         number: int = step[1]
         return min(number, self.size) if number > 0 else max(self.size + number, 0)
 
+    def items(self, root: int, step: RuleStep) -> tuple[dict[int, int], dict[int, Fraction]]:
+        """What the items below a bucket weigh for which a step looks, and what part of its groups each gets."""
+        weights = {item: self.weight(item) for item in self.of_type(root, step[2])}
+        return weights, filled(weights, self.count(step))
+
     def leaves(self, item: int, part: Fraction) -> dict[int, Fraction]:
         """A part of the groups, shared among the OSDs below an item by weight."""
         weights = {osd: self.weight(osd) for osd in self.of_type(item, 0)}
@@ -98,8 +109,7 @@ class Reach:
     def given(self, root: int, steps: list[RuleStep], part: Fraction) -> dict[int, Fraction]:
         """What steps give the OSDs below a bucket that has a part of the groups."""
         step, more = steps[0], steps[1:]
-        weights = {item: self.weight(item) for item in self.of_type(root, step[2])}
-        parts, found = filled(weights, self.count(step)), dict[int, Fraction]()
+        (weights, parts), found = self.items(root, step), dict[int, Fraction]()
         self.keep_full(weights, parts, steps)
         for item, own in parts.items():
             if own:
@@ -115,11 +125,47 @@ class Reach:
                 wanted = float(places * count * weights[item] / total)
                 self.full.append(Full(item, self.buckets[item]["type"], places, wanted))
 
+    def lying(
+        self, root: int, steps: list[RuleStep], places: Fraction, counts: Mapping[int, int]
+    ) -> dict[int, Fraction]:
+        """How many places steps give the OSDs below a bucket that has some of groups left short, of which OSDs have so
+        many: full buckets as these lie, the others the rest by weight.
+        """
+        step, more = steps[0], steps[1:]
+        (weights, parts), found = self.items(root, step), dict[int, Fraction]()
+        there = {item: sum(counts.get(osd, 0) for osd in self.of_type(item, 0)) for item in weights}
+        scale = places / (sum(there.values()) or 1)
+        own = {item: there[item] * scale for item, part in parts.items() if part == 1}
+        free = {item: weight for item, weight in weights.items() if weight and item not in own}
+        rest, total = places - sum(own.values(), Fraction(0)), sum(free.values())
+        own.update({item: rest * weight / total for item, weight in free.items()})
+        for item, count in own.items():
+            found.update(self.lying(item, more, count, counts) if more else self.leaves(item, count))
+        return found
+
+    def parts_beside(self, root: int, steps: list[RuleStep], sets: Sequence[set[int]]) -> dict[int, int] | None:
+        """What a block gives the OSDs that weigh something, of a pool whose groups lie so, in parts of all places; None
+        where no group is short.
+        """
+        count, none = int(sum(self.found.values())), Fraction(0)
+        short = [own for own in sets if len(own) < count]
+        if not short:
+            return None
+        counts = Counter(osd for own in short for osd in own)
+        lying, whole = self.lying(root, steps, Fraction(sum(counts.values())), counts), len(sets) - len(short)
+        return self.in_units({osd: whole * self.found.get(osd, none) + lying.get(osd, none) for osd in self.weights})
+
+    def in_units(self, found: Mapping[int, Fraction]) -> dict[int, int]:
+        """Parts of OSDs that weigh something as whole numbers of one unit."""
+        exact = lcm(*{own.denominator for own in found.values()})
+        unit = exact if exact <= EXACT else PARTS
+        return {osd: int(found.get(osd, 0) * unit) for osd in self.weights}
+
     def parts(self, root: int, steps: list[RuleStep]) -> dict[int, int]:
         """What a block gives the OSDs that weigh something: as they weigh where it is that, else in parts of all
         groups.
         """
-        found = self.given(root, steps, Fraction(1)) if root < 0 and steps else {}
+        found = self.found = self.given(root, steps, Fraction(1)) if root < 0 and steps else {}
         # OSDs that weigh the same below one bucket have the same part, which is reckoned with once.
         parts, counts = {id(own): own for own in found.values()}, Counter(map(id, found.values()))
         whole, total = sum((own * counts[at] for at, own in parts.items()), Fraction(0)), sum(self.weights.values())
@@ -128,6 +174,14 @@ class Reach:
         if all(own * total == whole * weight for (_, weight), own in alike.items()):
             self.full.clear()
             return dict(self.weights)
-        exact = lcm(*(own.denominator for own in parts.values()))
-        unit = exact if exact <= EXACT else PARTS
-        return {osd: int(found.get(osd, 0) * unit) for osd in self.weights}
+        return self.in_units(found)
+
+
+class ReachByRule(NamedTuple):
+    """What a rule can give the trees of OSDs of a pool of a size, in place of their weights; the buckets that are full
+    then; and of each tree of one block what gives it that: the reach, what the block takes, and its choose steps.
+    """
+
+    trees: list[dict[int, int]]
+    full: list[Full]
+    blocks: list[tuple[Reach, int, list[RuleStep]] | None]

@@ -1,5 +1,6 @@
 """What `ceph report` prints: one file, which has both dumps of a cluster at one time (Ceph 16.2 and 18.2, Monitor.cc
-`handle_command` of "report"), and what its pools hold.
+`handle_command` of "report"), and what its pools hold. A binary map has both dumps too, and stands wherever a report
+does; and so does what `gather` writes, which has beside them what `ceph pg dump` and `ceph df` print.
 """
 
 from __future__ import annotations
@@ -7,15 +8,17 @@ from __future__ import annotations
 import json
 import re
 from collections.abc import Iterable
-from functools import lru_cache
 
 from ..faults import Fault, Trouble
-from ..files import JsonObject, text_of
+from ..files import JsonObject, remembered, text_of
+from .binary_maps import is_binary_map, report_of_map
 from .dump_forms import is_map
 
 # Where the two dumps stand in a report.
 OSD_PART, CRUSH_PART = "osdmap", "crushmap"
 PARTS = (OSD_PART, CRUSH_PART)
+# What `gather` puts beside them: groups one by one, and what `ceph df` prints.
+GROUPS_PART, DF_PART = "pg_stats", "df"
 # What Ceph prints beside a report, on standard error, where both were put into one file.
 HEAD = re.compile(r"\s*report \d+\r?\n")
 
@@ -25,9 +28,13 @@ def like_report(value: object) -> bool:
     return isinstance(value, dict) and any(part in value for part in PARTS) and not is_map(value)
 
 
-@lru_cache(maxsize=4)
+@remembered(4)
 def report_in(path: str) -> JsonObject | None:
-    """The report in a file; None where it is none. A fault where the file cannot be read."""
+    """The report in a file, or the binary map that has both dumps as a report has them; None where it is none. A fault
+    where the file cannot be read.
+    """
+    if is_binary_map(path):
+        return report_of_map(path)
     text = text_of(path)
     if not any(f'"{part}"' in text for part in PARTS):
         return None
@@ -39,9 +46,9 @@ def report_in(path: str) -> JsonObject | None:
 
 
 def is_report_file(path: str) -> bool:
-    """Whether a file has a report; not where it cannot be read, which is told by whoever reads it."""
+    """Whether a file has a report or a binary map; not where it cannot be read, which is told by whoever reads it."""
     try:
-        return report_in(path) is not None
+        return is_binary_map(path) or report_in(path) is not None
     except Fault:
         return False
 
@@ -65,7 +72,13 @@ def dump_in_report(path: str, part: str) -> JsonObject | None:
     return dump
 
 
+def beside_dumps(path: str, part: str) -> object:
+    """What a file that `gather` wrote has beside both dumps; None where it has not that part, or is another file."""
+    return None if path == "-" or not is_report_file(path) else (report_in(path) or {}).get(part)
+
+
 def check_no_report(path: str, what: str) -> None:
     """A fault where a file is a report, and something is asked for that no report tells."""
     if path != "-" and is_report_file(path):
-        raise Trouble(f"{path}: this is what `ceph report` prints, which does not tell {what}")
+        made = "`ceph osd getmap` writes" if is_binary_map(path) else "`ceph report` prints"
+        raise Trouble(f"{path}: this is what {made}, which does not tell {what}")

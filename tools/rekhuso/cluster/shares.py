@@ -3,14 +3,14 @@
 from __future__ import annotations
 
 from collections import Counter
-from collections.abc import Collection
+from collections.abc import Collection, Iterable
 from copy import copy
 
 from ..program.answers import Up
-from ..program.maps import Map, Pool, groups_in, rule_for
+from ..program.maps import Map, Pool, RuleStep, groups_in, rule_for
 from .evenness import standing_in, sums_by_osd
 from .json_forms import FullParts, PoolRowParts, RowParts, SpreadParts, TotalParts
-from .reach import Full, Reach, blocks_of
+from .reach import Full, Reach, ReachByRule, blocks_of
 
 
 class Shares:
@@ -26,8 +26,11 @@ class Shares:
         self.buckets = {bucket["id"]: bucket for bucket in value["buckets"]}
         self.items = {item: weight for bucket in value["buckets"] for item, weight in bucket["items"]}
         self.trees: dict[int, list[dict[int, int]]] = {}
-        self.reaches: dict[tuple[int, int], tuple[list[dict[int, int]], list[Full]]] = {}
+        self.reaches: dict[tuple[int, int], ReachByRule] = {}
+        self.reached_by: dict[int, list[dict[int, int]]] = {}
+        # Shares that are known by what trees are, and trees that are kept for that.
         self.known: dict[tuple[int, ...], dict[int, float]] = {}
+        self.kept: list[dict[int, int]] = []
         self.shares_by = {pool["id"]: self.shares_in(pool) for pool in value["pools"]}
         self.reach_by = {pool["id"]: self.reach_in(pool) for pool in value["pools"]}
         self.wanted: dict[int, float] = dict(sums_by_osd(self.shares_by))
@@ -41,11 +44,16 @@ class Shares:
         found.sets = {**self.sets, **{pool["id"]: list(map(ups.__getitem__, groups_in(pool))) for pool in pools}}
         found.counts_in = {**self.counts_in, **{pool["id"]: found.counted(pool) for pool in pools}}
         found.counts = Counter(sums_by_osd(found.counts_in))
+        found.reached_by = {number: own for number, own in self.reached_by.items() if number not in moved}
         found.shares_by = {**self.shares_by, **{pool["id"]: found.shares_in(pool) for pool in pools}}
         found.reach_by = {**self.reach_by, **{pool["id"]: found.reach_in(pool) for pool in pools}}
         if found.shares_by != self.shares_by or found.reach_by != self.reach_by:
             found.wanted, found.reached = dict(sums_by_osd(found.shares_by)), dict(sums_by_osd(found.reach_by))
         return found
+
+    def keep(self, trees: Iterable[dict[int, int]]) -> None:
+        """Keeps trees, since what is known of them goes by what they are."""
+        self.kept.extend(trees)
 
     def ups_in(self, pool: Pool) -> list[Up]:
         """The up sets of a pool's groups."""
@@ -72,30 +80,57 @@ class Shares:
             self.trees[pool["rule"]] = [tree for tree in kept if tree]
         return self.trees[pool["rule"]]
 
-    def reach_for(self, pool: Pool) -> tuple[list[dict[int, int]], list[Full]]:
-        """The trees with what the pool's rule can give their OSDs in place of the weights, if that is anything else;
-        and the buckets that are full then. By weight where a tree has several blocks.
+    def reach_for(self, pool: Pool) -> ReachByRule:
+        """What the pool's rule can give the OSDs of its trees, if that is anything else than by weight; by weight where
+        a tree has several blocks.
         """
         key = pool["rule"], pool["size"]
         if key not in self.reaches:
-            trees, full = list[dict[int, int]](), list[Full]()
+            found = ReachByRule([], [], [])
             steps = rule_for(self.value, pool)["steps"]
             blocks = [(set(self.below(root)), root, own) for root, own in blocks_of(steps)]
             for weights in self.trees_for(pool):
                 own = [(root, block) for osds, root, block in blocks if not osds.isdisjoint(weights)]
                 reach = Reach(self.buckets, weights, pool["size"])
-                trees.append(reach.parts(*own[0]) if len(own) == 1 else weights)
-                full += reach.full
-            self.reaches[key] = trees, full
+                found.trees.append(reach.parts(*own[0]) if len(own) == 1 else weights)
+                found.full.extend(reach.full)
+                found.blocks.append((reach, *own[0]) if len(own) == 1 else None)
+            self.reaches[key] = found
         return self.reaches[key]
 
     def reach_trees(self, pool: Pool) -> list[dict[int, int]]:
-        """What a pool's rule can give OSDs, tree by tree: parts of what all of a tree have."""
-        return self.reach_for(pool)[0]
+        """What a pool's rule can give OSDs, tree by tree: parts of what all of a tree have. Groups left short count in
+        full buckets as they lie.
+        """
+        number = pool["id"]
+        if number not in self.reached_by:
+            rule = self.reach_for(pool)
+            self.reached_by[number] = [self.beside_short(pool, *own) for own in zip(rule.trees, rule.blocks)]
+        return self.reached_by[number]
+
+    def whole_reach(self) -> dict[int, dict[int, float]]:
+        """How many places of each pool its rule can give the OSDs, where no group is left short."""
+        return {pool["id"]: self.shared(pool, self.reach_for(pool).trees) for pool in self.value["pools"]}
+
+    def beside_short(
+        self, pool: Pool, tree: dict[int, int], block: tuple[Reach, int, list[RuleStep]] | None
+    ) -> dict[int, int]:
+        """What a pool's rule can give the OSDs of a tree, beside groups left short. While OSDs are down that are in,
+        nothing tells by whom a group is short.
+        """
+        if block is None or any(own["exists"] and own["weight"] and not own["up"] for own in self.osds.values()):
+            return tree
+        reach, root, steps = block
+        if not reach.full:
+            return tree
+        osds = set(reach.of_type(root, 0))
+        found = reach.parts_beside(root, steps, [osds.intersection(up.places) for up in self.ups_in(pool)])
+        self.kept += [] if found is None else [found]
+        return tree if found is None else found
 
     def full_in(self, pool: Pool) -> list[Full]:
         """The buckets that have as many places of each group of a pool as they can have, and weigh otherwise."""
-        return self.reach_for(pool)[1]
+        return self.reach_for(pool).full
 
     def weight(self, osd: int) -> int:
         """What an OSD weighs: its weight times its reweight, nothing where it is not there, or down."""

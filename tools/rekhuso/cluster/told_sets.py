@@ -104,6 +104,11 @@ class Verified:
         """The groups that differ and were told at a later epoch than that of the maps."""
         return [group for group in self.differ if (self.told[group].epoch or 0) > self.epoch]
 
+    def earlier(self) -> list[str]:
+        """The groups that differ and were told at an earlier epoch than that of the maps."""
+        epochs = {group: self.told[group].epoch for group in self.differ}
+        return [group for group, epoch in epochs.items() if epoch is not None and epoch < self.epoch]
+
 
 def osd_word(osd: int | None) -> str:
     """An OSD, or that there is none."""
@@ -143,17 +148,32 @@ def told_sets_in(path: str, cluster: Cluster, is_whole: bool) -> dict[str, ToldS
     return {entry["pgid"]: told_set(entry) for entry in own}
 
 
-def verified(pools: Iterable[Pool], ups: Mapping[str, Up], told: Mapping[str, ToldSet], epoch: int) -> Verified:
-    """What sets of pools are beside those that are told, where the maps are of an epoch. A group whose state says that
-    nobody knows it, or that differs and was told at an earlier epoch, is not told yet.
+def is_touched(cluster: Cluster, group: str, osds: Iterable[int | None], epoch: int) -> bool:
+    """Whether something that is dated has touched a group behind an epoch: its pool, or that an OSD of its sets came up
+    or went down. Of a dump whose pools have no dates nobody knows.
+    """
+    pool: Mapping[str, object] = next(own for own in cluster.pools if own["pool"] == group_key(group)[0])
+    last = epoch_in(pool.get("last_change"))
+    if last is None or last > epoch:
+        return True
+    dated: list[Mapping[str, object]] = [cluster.osds[osd] for osd in osds if osd in cluster.osds]
+    found = [epoch_in(own.get(key)) for own in dated for key in ("up_from", "down_at", "lost_at")]
+    return any(own is not None and own > epoch for own in found)
+
+
+def verified(pools: Iterable[Pool], ups: Mapping[str, Up], told: Mapping[str, ToldSet], cluster: Cluster) -> Verified:
+    """What sets of pools are beside those that are told. A group whose state says that nobody knows it, or that differs
+    and has been touched since it was told, is not told yet.
     """
     pools, differ, untold = list(pools), list[str](), list[str]()
-    erasure, own = erasure_pools(pools), dict[str, Up]()
+    erasure, own, epoch = erasure_pools(pools), dict[str, Up](), cluster.epoch
     for pool in pools:
         for group in groups_in(pool):
             own[group], said = ups[group], told.get(group)
             if said is None or not said.is_known:
                 untold.append(group)
             elif not said.is_same(ups[group], pool["id"] in erasure):
-                (untold if said.epoch is not None and said.epoch < epoch else differ).append(group)
+                osds = [*said.places, *ups[group].places]
+                at = epoch if said.epoch is None else said.epoch
+                (untold if at < epoch and is_touched(cluster, group, osds, at) else differ).append(group)
     return Verified(epoch, own, told, differ, untold)

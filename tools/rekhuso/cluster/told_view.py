@@ -17,7 +17,7 @@ def verified_view(view: ClusterView, sets: Mapping[str, Up], path: str, is_whole
     the dump is of another cluster; `is_whole` says whether these are all pools of the cluster.
     """
     told = None if view.found is None else told_sets_in(path, view.found.cluster, is_whole)
-    return None if view.found is None or told is None else verified(view.pools, sets, told, view.found.cluster.epoch)
+    return None if view.found is None or told is None else verified(view.pools, sets, told, view.found.cluster)
 
 
 def orders_of(told: Sequence[int | None]) -> list[list[int | None]]:

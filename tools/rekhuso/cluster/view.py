@@ -12,6 +12,7 @@ from ..files import json_of, text_of
 from ..program.answers import Up
 from ..program.map_forms import list_of, number_between, object_of, one_of, tuple_of
 from ..program.maps import Bucket, Map, Pool, Program, altered
+from ..running import tell
 from .advice import HELD
 from .affinity import affinities_of, all_with_affinity
 from .cluster import Cluster
@@ -21,8 +22,9 @@ from .imports import ImportedCluster, imported
 from .map_files import map_in, map_with_sets
 from .map_parts import map_clusters
 from .names import Names, names_in
+from .pools_beside import PoolsBeside, beside, beside_lines
 from .primaries import NamedPrimaries, primaries_in
-from .reach import Full
+from .reach import ReachByRule
 from .shares import Shares
 from .sources import Source
 from .unrest import unrest_of
@@ -96,6 +98,11 @@ class ClusterView:
 
         return no_plan_words(compat_words(self.found.cluster, program) if self.found else "")
 
+    def beside(self, now: ClusterView | None = None, is_unknown: bool = False) -> PoolsBeside:
+        """The pools that were left out, with what may move of them where it becomes another, or nobody knows which."""
+        states = [] if now is None or now.found is None else [now.found.cluster]
+        return PoolsBeside() if self.found is None else beside(self.found.cluster, states, is_unknown)
+
     def shares(self, ups: dict[str, Up]) -> Shares:
         """The shares of the whole."""
         if not self.is_cluster:
@@ -117,7 +124,7 @@ class ClusterShares(Shares):
         """The weights of the OSDs that may have groups of the pool, by the map that has it."""
         return self.of_pool[pool["id"]].trees_for(pool)
 
-    def reach_for(self, pool: Pool) -> tuple[list[dict[int, int]], list[Full]]:
+    def reach_for(self, pool: Pool) -> ReachByRule:
         """What the pool's rule can give OSDs, by the weights that place its groups: those of a weight set in force."""
         return self.placed[pool["id"]].reach_for(pool)
 
@@ -251,6 +258,8 @@ def view_of_cluster(cluster: Cluster) -> ClusterView:
 def cluster_view(source: Source) -> ClusterView:
     """The cluster of two dumps, by its own names where no others are given. A fault where it stays out."""
     found = imported(source.dumps())
+    for line in beside_lines(found.cluster):
+        tell(line)
     return ClusterView(found.maps, names_in(source.names) if source.names else found.cluster.all_names(), found)
 
 

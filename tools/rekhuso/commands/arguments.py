@@ -6,10 +6,13 @@ import argparse
 import re
 import sys
 from collections.abc import Callable, Sequence
+from itertools import takewhile
 from typing import IO, TYPE_CHECKING, Any, NoReturn, TypeVar
 
 from ..cluster.reports import with_both
 from ..cluster.sources import Source
+from ..faults import Misuse
+from ..running import tell
 
 # What the command line says; each command takes of it the options of its own.
 Arguments = argparse.Namespace
@@ -44,14 +47,53 @@ class Parser(argparse.ArgumentParser):
         """Takes what any parser takes."""
         super().__init__(**forms)
         self.allow_abbrev, self.formatter_class = False, Paragraphs
+        self._option_string_actions["--help"].help = "tell the use; with --all all of it"
+        # What makes the help, where it is another than argparse makes.
+        self.made_help: Callable[[], str] | None = None
         self.repeated: frozenset[str] = frozenset()
+        # Options by the names that they had before, which go on for one release.
+        self.older: dict[str, str] = {}
         # Options stand in the group in which they are added; all others are of the command itself.
         self.of_reading = self.add_argument_group("options of what is read")
         self.of_output = self.add_argument_group("options of what is put out")
 
     def error(self, message: str) -> NoReturn:
-        """Ends the command with status 2 and a line on standard error."""
-        self.exit(2, f"{self.prog}: error: {message} (--help tells the use)\n")
+        """Ends the reading of words, as an error of use."""
+        raise Misuse(message).of_command(self.prog)
+
+    def format_help(self) -> str:
+        """The help: the first screen, all commands, or all of it."""
+        return super().format_help() if self.made_help is None else self.made_help()
+
+    def _check_value(self, action: argparse.Action, value: Any) -> None:
+        """Asks that a value is one of those that an option or a word takes; a command that is none is told."""
+        near = "" if action.choices is None or value in action.choices else meant(value, list(action.choices))
+        if near and isinstance(action, argparse._SubParsersAction):
+            self.error(f"{value}: no command{near}")
+        super()._check_value(action, value)
+
+    def renamed(self, words: list[str]) -> list[str]:
+        """Words in which each option has the name of today; an older one is told."""
+        found = []
+        for word in words:
+            name, sign, value = word.partition("=")
+            if name in self.older:
+                tell(f"{self.prog}: {name} is {self.older[name]} now; the older name goes")
+                word = f"{self.older[name]}{sign}{value}"
+            found.append(word)
+        return found
+
+    def check_options(self, words: list[str]) -> None:
+        """An error of use for an option that is none and is like one, which is told."""
+        commands = [
+            name for own in self._actions if isinstance(own, argparse._SubParsersAction) for name in own.choices
+        ]
+        for word in takewhile(lambda word: word != "--" and word not in commands, words):
+            name = word.partition("=")[0]
+            if name.startswith("--") and name not in self._option_string_actions:
+                near = meant(name, [*self._option_string_actions])
+                if near:
+                    self.error(f"{name}: no option{near}")
 
     def _print_message(self, message: str, file: IO[str] | None = None) -> None:
         """Writes a message. OSError where it cannot be written, which argparse would pass over."""
@@ -59,8 +101,17 @@ class Parser(argparse.ArgumentParser):
 
     def parse_known_args(self, args: Any = None, namespace: Any = None) -> Any:
         """Reads words, of which some options take several OSDs."""
-        words = None if args is None else repeated_words(list(args), self.repeated)
+        words = None if args is None else repeated_words(self.renamed(list(args)), self.repeated)
+        self.check_options(words or [])
         return super().parse_known_args(words, namespace)
+
+
+def meant(word: str, names: list[str]) -> str:
+    """What may be meant by a word that is none, in words; nothing where no name is like it."""
+    from difflib import get_close_matches
+
+    near = get_close_matches(word, names, 1, 0.7)
+    return f"; did you mean {near[0]}?" if near else ""
 
 
 def repeated_words(words: list[str], options: frozenset[str]) -> list[str]:
@@ -78,6 +129,12 @@ def repeated_words(words: list[str], options: frozenset[str]) -> list[str]:
     return found
 
 
+def rename(own: argparse.ArgumentParser, older: dict[str, str]) -> None:
+    """Has a command take options by older names too, each with the name of today."""
+    if isinstance(own, Parser):
+        own.older.update(older)
+
+
 def reading(own: argparse.ArgumentParser) -> argparse._ActionsContainer:
     """Where the options of what a command reads stand in its help."""
     return own.of_reading if isinstance(own, Parser) else own
@@ -93,11 +150,13 @@ MORE = "[OPTION ..]"
 FILES = "MAP | OSD_DUMP CRUSH_DUMP | REPORT"
 ABOUT_FILES = (
     "a map, as `import` writes it (- is standard input); or the two dumps of a cluster, what `ceph osd dump -f json` "
-    "and `ceph osd crush dump` print, or what `ceph report` prints, which has both; also packed by gzip"
+    "and `ceph osd crush dump` print, or one file that has both: what `ceph osd getmap -o FILE` writes, or `ceph "
+    "report` prints; also packed by gzip"
 )
 DUMPS = "OSD_DUMP CRUSH_DUMP | REPORT"
 ABOUT_DUMPS = (
-    "what `ceph osd dump -f json` and `ceph osd crush dump` print; or what `ceph report` prints, which has both"
+    "what `ceph osd dump -f json` and `ceph osd crush dump` print; or one file that has both: what `ceph osd getmap "
+    "-o FILE` writes, or `ceph report` prints"
 )
 
 
@@ -117,7 +176,7 @@ class Files(argparse.Action):
         option: str | None = None,
     ) -> None:
         """Keeps the words, or ends the command with status 2."""
-        words = list(map(str, values or ()))
+        words = [str(word) for word in values or ()]
         files = with_both(words) if self.has_input or "-" not in words else words
         if len(files) not in self.counts:
             parser.error(f"{parser.prog.split(' ')[-1]} takes {self.words}")
@@ -185,6 +244,19 @@ def add_dump_options(own: argparse.ArgumentParser) -> None:
         help="what `ceph osd tree -f json` prints: the reweights of OSDs that were removed and stand in CRUSH",
     )
     group.add_argument("--pools", metavar="ID|NAME,..", help="only these pools")
+
+
+def add_leaving(own: argparse.ArgumentParser) -> None:
+    """The option for pools that are left out although a change is of their rule or their OSDs."""
+    about = "with --pools: these pools are left out although what places them changes, and may move at once"
+    reading(own).add_argument("--leaving", metavar="ID|NAME,..", help=about)
+
+
+def leaving_of(arguments: Arguments) -> tuple[str, ...]:
+    """The pools that are left out although they may move. An error of use where none is left out."""
+    if arguments.leaving is not None and arguments.pools is None:
+        raise Misuse("--leaving goes with --pools, which leaves pools out")
+    return () if arguments.leaving is None else (arguments.leaving,)
 
 
 def add_osds(own: argparse.ArgumentParser) -> None:

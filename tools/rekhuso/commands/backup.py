@@ -13,7 +13,7 @@ from ..faults import Trouble, Unopened
 from ..program.maps import Program
 from ..program.process import built, told_by
 from ..program.versions import program_of
-from ..progress import doing
+from ..running import doing
 from ..values import SLOTS
 from .arguments import Arguments, Commands, add_without_log, set_work
 

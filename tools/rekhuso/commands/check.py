@@ -22,7 +22,7 @@ from ..program.map_forms import Defect, REFUSALS
 from ..program.maps import Program, needs_stock
 from ..program.questions import answers_of, raw_answers
 from ..values import SLOTS
-from .arguments import Arguments, Commands, add_json, add_names_file, set_work
+from .arguments import MORE, Arguments, Commands, add_json, add_names_file, set_work
 from .whatif_words import is_change_text
 
 OWNERS = re.compile(r"(buckets|osds|pools|rules)\[([0-9]+)\]")
@@ -149,6 +149,7 @@ def work(options: CheckOptions) -> None:
 def add_to(commands: Commands) -> None:
     """The subcommand."""
     own = commands.add_parser("check", help="whether a map or a change is lawful, and where not", description=__doc__)
+    own.usage = f"%(prog)s MAP [CHANGE] {MORE}"
     own.add_argument("map", metavar="MAP", help="a map, as `import` writes it; - is standard input")
     own.add_argument("change", metavar="CHANGE", nargs="?", help="a change as JSON, or a file with one")
     add_names_file(own)

@@ -2,13 +2,15 @@
 
 RATIO is that of an OSD's groups to its share, which is what its weight and reweight call for; DEVIATION is the
 difference of the two, in groups. REACH, where it is not the share, is what the rules can give an OSD: a failure domain
-holds one place of a group, whatever it weighs. Of two dumps the tree is the cluster's, without the shadow buckets of
-device classes, and with what weighs 0; groups and shares are those of all pools. With --osds it has SIZE, RAW USE,
-AVAIL and %USE too.
+holds one place of a group, whatever it weighs. LEADS is of how many groups an OSD is the primary, to which reads go. Of
+two dumps the tree is the cluster's, without the shadow buckets of device classes, and with what weighs 0; groups and
+shares are those of all pools. With --osds it has SIZE, RAW USE, AVAIL and %USE too. On a terminal that has room for it
+a bar shows what an OSD has of its share, in lighter signs what it lacks, and in others what it has beyond.
 """
 
 from __future__ import annotations
 
+import sys
 from collections import Counter
 from collections.abc import Mapping
 from dataclasses import dataclass
@@ -27,15 +29,20 @@ from ..output.fill_words import osd_words
 from ..output.json_output import put_json
 from ..output.metrics import metrics
 from ..program.answers import Up
+from ..terminal import columns_of
 from ..values import SLOTS
 from ..words import counted
 from .arguments import Arguments, Commands, add_files, add_json, add_osds, putting, set_work, source_of
 
 
+# What lets CRUSH look longer for places that it has not found.
+LONGER = " (CRUSH looks longer by a step set_choose_tries of the rule, or by choose_total_tries)"
+
+
 def pool_line(pool: PoolRowParts, names: Names, unrest: Mapping[int, Unrest]) -> str:
     """What is told of a pool, also what becomes of it where it is not at rest."""
     then = f"; {unrest[pool['id']]}" if pool["id"] in unrest else ""
-    short = f", {pool['short']} with fewer places than its size" if pool["short"] else ""
+    short = f", {pool['short']} with fewer places than its size{LONGER}" if pool["short"] else ""
     groups, full = counted(pool["groups"], "group"), full_words(pool["full"], names)
     words = f"{named(names, 'pools', pool['id'])}: {groups} of size {pool['size']} by rule {pool['rule']}{short}"
     return words + (f"; {full}" if full else "") + then
@@ -67,6 +74,7 @@ def put_df_json(view: ClusterView, sets: dict[str, Up], shares: Shares, disks: M
         pools=[dict(pool, name=named(names, "pools", pool["id"])) for pool in shares.pools()],
         unrest=[own.parts() for own in view.unrest.values()],
         primary_affinity=told_affinities(view.affinities),
+        **view.beside().parts(),
     )
 
 
@@ -98,9 +106,10 @@ def work(options: DfOptions) -> None:
         put_df_json(view, sets, shares, disks)
         return
     total, stray = summary(shares, disks), [node(shares, row, names, disks) for row in shares.stray()]
-    lines = tree_lines(nodes(shares, names, disks), stray, total) + [
-        pool_line(pool, names, view.unrest) for pool in shares.pools()
-    ]
+    tree, primaries = nodes(shares, names, disks), Counter(up.primary for up in sets.values())
+    leads = {own["id"]: sum(primaries[osd] for osd in shares.below(own["id"])) for own in [*tree, *stray]}
+    lines = tree_lines(tree, stray, total, leads, columns_of(sys.stdout))
+    lines += [pool_line(pool, names, view.unrest) for pool in shares.pools()]
     print("\n".join(lines + summary_lines(total, names)))
 
 

@@ -7,6 +7,7 @@ from __future__ import annotations
 
 from dataclasses import dataclass
 
+from ..cluster.cluster import Cluster
 from ..cluster.conversion import monitor_of
 from ..cluster.difference import change_of, moved_parts
 from ..cluster.flows import flows
@@ -14,6 +15,7 @@ from ..cluster.imports import imported
 from ..cluster.map_files import map_with_sets
 from ..cluster.moving import erasure_pools, other_sets, with_split_groups
 from ..cluster.names import Names, names_in, with_names
+from ..cluster.pools_beside import PoolsBeside, beside
 from ..cluster.primaries import named_primaries, other_primaries
 from ..cluster.sources import Source
 from ..faults import Refused
@@ -40,12 +42,15 @@ class DiffOptions:
 
 @dataclass(frozen=True, **SLOTS)
 class Side:
-    """A map with the up set of each of its groups, its names, and the primaries that dumps name for groups."""
+    """A map with the up set of each of its groups, its names, and the primaries that dumps name for groups; and the
+    cluster of these dumps, where there are any.
+    """
 
     value: Map
     sets: dict[str, Up]
     names: Names
     primaries: dict[str, int]
+    cluster: Cluster | None
 
 
 def options_of(arguments: Arguments) -> DiffOptions:
@@ -58,11 +63,17 @@ def side_of(source: Source) -> Side:
     """A map, or that of two dumps. A fault where it is not lawful, or a cluster stays out or takes several maps."""
     if not source.has_dumps:
         source.check_map()
-        return Side(*map_with_sets(source.paths[0], source.program), names_in(source.names), {})
+        return Side(*map_with_sets(source.paths[0], source.program), names_in(source.names), {}, None)
     found = imported(source.dumps(), True)
     value, names = found.maps[0], names_in(source.names) if source.names else found.cluster.all_names()
     with monitor_of(value, source.program) as monitor:
-        return Side(value, monitor.pool_ups(value["pools"]), names, named_primaries(found.cluster.osd_dump))
+        sets, primaries = monitor.pool_ups(value["pools"]), named_primaries(found.cluster.osd_dump)
+    return Side(value, sets, names, primaries, found.cluster)
+
+
+def beside_between(old: Side, new: Side) -> PoolsBeside:
+    """The pools that are left out, with what may move of them."""
+    return PoolsBeside() if old.cluster is None or new.cluster is None else beside(old.cluster, [new.cluster])
 
 
 def check_change(old: Map, new: Map, change: Change, source: Source) -> None:
@@ -88,11 +99,15 @@ def work(options: DiffOptions) -> None:
     pairs = [[*pair, count] for pair, count in sorted(flows(moved, erasure).items(), key=lambda own: (-own[1], own[0]))]
     if options.is_json:
         epochs = old.value["epoch"], new.value["epoch"]
-        put_json("diff", epochs[0], new_epoch=epochs[1], change=change, unsaid=unsaid, **told, flows=pairs)
+        told_beside = beside_between(old, new).parts()
+        put_json(
+            "diff", epochs[0], new_epoch=epochs[1], change=change, unsaid=unsaid, **told, flows=pairs, **told_beside
+        )
         return
     lines = [f"change {written(change)}", *(f"no change says: {line}" for line in unsaid), *pair_lines(pairs, names)]
     moving = counted(told["groups"], "group"), counted(told["places"], "place"), counted(len(told["osds"]), "OSD")
-    print("\n".join([*lines, f"{moving[0]}, {moving[1]} and {moving[2]} move"]))
+    moves = f"{moving[0]}, {moving[1]} and {moving[2]} move"
+    print("\n".join([*lines, moves, *beside_between(old, new).lines()]))
 
 
 class Pair(Files):

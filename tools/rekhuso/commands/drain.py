@@ -12,14 +12,14 @@ the way back, whichever script was run. The program judges each script as printe
 
 from __future__ import annotations
 
-import sys
-from dataclasses import dataclass
+from dataclasses import dataclass, replace
 
 from ..cluster.advice import HELD
 from ..cluster.cluster import Cluster
 from ..cluster.data_files import DataFiles
 from ..cluster.imports import imported
 from ..cluster.moving_advice import compat_words
+from ..cluster.pools_beside import beside, check_leaving
 from ..cluster.reports import with_both
 from ..cluster.sources import Source
 from ..cluster.view import ClusterView
@@ -40,11 +40,15 @@ from ..output.origins import Origin, origin_of
 from ..output.plan_scripts import part_file, put_scripts
 from ..plans.drain import Drain, DrainWish, drain_of
 from ..plans.drain_checks import check_once
+from ..plans.drain_stages import Stage, after_all, ending
+from ..plans.guards import pools_asked
+from ..plans.heads import NOT_TOLD, sum_of_crush
 from ..plans.hold_checks import check_still, moving_words
 from ..plans.movement import PlaceBytes, place_bytes
 from ..program.maps import Program
+from ..running import tell
 from ..values import SLOTS
-from .arguments import MORE, Arguments, Commands, add_dump_options, set_work, source_of
+from .arguments import MORE, Arguments, Commands, add_dump_options, add_leaving, leaving_of, set_work, source_of
 from .data_words import add_data_words, data_files, data_of
 from .put_words import PutWords, add_put_words, put_words
 from .whatif_words import IN_FORCE, osds_named
@@ -53,8 +57,8 @@ from .whatif_words import IN_FORCE, osds_named
 @dataclass(frozen=True, **SLOTS)
 class DrainOptions:
     """The dumps of the cluster; the words that name what is drained; whether places keep their device class; whether
-    groups go to where a plan has them; whether a cluster that moves is drained too; how it is put out; and the files
-    that tell what pools hold.
+    groups go to where a plan has them; whether a cluster that moves is drained too; how it is put out; the files that
+    tell what pools hold; and which pools are left out although they may move.
     """
 
     source: Source
@@ -64,6 +68,7 @@ class DrainOptions:
     is_anyway: bool
     output: PutWords
     data: DataFiles
+    leaving: tuple[str, ...]
 
 
 def options_of(arguments: Arguments) -> DrainOptions:
@@ -72,7 +77,7 @@ def options_of(arguments: Arguments) -> DrainOptions:
     own.words = [*with_both(own.words[:1]), *own.words[1:]]
     if len(own.words) < 3:
         raise Misuse("drain takes the two dumps of a cluster, and the OSDs or buckets behind them")
-    output = put_words(own, True, own.to is not None or own.json or own.undo, "--to")
+    output = put_words(own, True, own.to is not None or own.json or own.undo, "--to", True)
     words = tuple(part for word in own.words[2:] for part in word.split(","))
     twice = next((word for at, word in enumerate(words) if word in words[:at]), None)
     if twice is not None:
@@ -85,6 +90,7 @@ def options_of(arguments: Arguments) -> DrainOptions:
         is_anyway=own.anyway,
         output=output,
         data=data_files(own),
+        leaving=leaving_of(own),
     )
 
 
@@ -119,21 +125,23 @@ def drained(options: DrainOptions) -> Drained:
     check_still(moving_words(cluster, program), options.is_anyway, "drained")
     view = ClusterView(found.maps, cluster.all_names(), found)
     osds = osds_of(view, options.words)
+    found_beside = beside(cluster, [after_all(cluster, ending(cluster, osds)[0])])
+    check_leaving(found_beside, options.leaving, "drained")
     source = options.source
     data = data_of(options.data, cluster, source.pools is None)
     wish = DrainWish(osds, options.is_kept, options.is_even, options.output.parts.size(cluster), data)
     files = [*source.paths, source.tree, options.data.df, options.data.pgs]
     drain = drain_of(cluster, wish, program)
-    origin = origin_of(program, files, cluster, options.output.is_guarded)
+    origin = origin_of(program, files, cluster, options.output.is_guarded).leaving(found_beside)
     return Drained(drain, cluster, place_bytes(drain.pools, data), origin)
 
 
 def files_of(own: Drained, program: Program) -> dict[str, str]:
     """The scripts by the names of their files, once the program has judged each as printed."""
-    # Behind the first one the CRUSH map is another one.
-    found, later, names = own.found, own.origin.later(None), own.cluster.all_names()
-    first, last = first_script(found, own.origin), last_script(found, later)
-    parts = part_scripts(found, names, own.weights, later)
+    found, names, guards = own.found, own.cluster.all_names(), own.origin.guards
+    whole = replace(own.origin, guards=guards.asking(pools_asked(own.cluster), True))
+    first, last = first_script(found, whole), last_script(found, own.origin)
+    parts = part_scripts(found, names, own.weights, own.origin)
     found.check_stage(found.begin, first, around, program)
     found.check_parts(parts)
     found.check_stage(found.end, last, around, program)
@@ -141,10 +149,16 @@ def files_of(own: Drained, program: Program) -> dict[str, str]:
     return {FIRST: first, **numbered, LAST: last}
 
 
+def stage_parts(own: Stage) -> dict[str, object]:
+    """A change with what holds the groups behind it, and its CRUSH map, as JSON."""
+    crush = sum_of_crush(own.cluster)
+    told = {"change": own.change, "commands": own.hold.commands, "left": own.hold.told()["left"]}
+    return {**told, "crush_map": None if crush == NOT_TOLD else crush}
+
+
 def put_drain_json(own: Drained) -> None:
     """Puts out the scripts' commands, what they move and the way back as one object."""
     found, weights = own.found, own.weights
-    begin, end = found.begin, found.end
     put_json(
         "drain",
         found.epoch,
@@ -153,7 +167,7 @@ def put_drain_json(own: Drained) -> None:
         moving=weights.moving(found.steps),
         fullest={"before": found.before.fill(), "after": found.after.fill()},
         data=None if found.fill is None else found.fill.parts(),
-        begin={"change": begin.change, "commands": begin.hold.commands, "left": begin.hold.told()["left"]},
+        begin=stage_parts(found.begin),
         parts=[
             {
                 "commands": [line for step in part for line in step.commands],
@@ -162,7 +176,7 @@ def put_drain_json(own: Drained) -> None:
             }
             for part, peak in zip(found.parts, found.peaks)
         ],
-        end={"change": end.change, "commands": end.hold.commands, "left": end.hold.told()["left"]},
+        end=stage_parts(found.end),
         waiting=[
             {"group": group, "code": why.code, "step": why.step, "why": why.why} for group, why in found.waiting.items()
         ],
@@ -176,7 +190,8 @@ def work(options: DrainOptions) -> None:
     own = drained(options)
     files, back = files_of(own, options.source.program), undo_script(own.found, own.origin.later(None))
     own.found.undo.check(back, around)
-    print("\n".join(drain_lines(own.found, own.cluster.all_names(), own.weights)), file=sys.stderr)
+    lines = drain_lines(own.found, own.cluster.all_names(), own.weights) + own.origin.beside.lines()
+    tell("\n".join(lines))
     if options.output.is_json:
         put_drain_json(own)
         return
@@ -205,5 +220,6 @@ def add_to(commands_of: Commands) -> None:
     add_put_words(own, "the way back to the dumps, whichever script was run", to, True)
     add_data_words(own)
     add_dump_options(own)
+    add_leaving(own)
     own.set_defaults(names=None)
     set_work(own, options_of, work)

@@ -234,7 +234,7 @@ def work(options: ExplainOptions) -> None:
     view = view_of(options.source)
     story = GroupStory(view, options.group, options.source.program)
     if options.is_json:
-        put_json("explain", story.value["epoch"], **story.parts(view.names))
+        put_json("explain", story.value["epoch"], **story.parts(view.names), **view.beside().parts())
     else:
         print("\n".join(story.lines(view.names)))
 

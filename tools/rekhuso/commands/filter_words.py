@@ -12,7 +12,7 @@ from ..cluster.view import view_of_cluster
 from ..faults import Fault
 from ..plans.group_filter import GroupFilter
 from ..values import SLOTS
-from .arguments import Arguments
+from .arguments import Arguments, rename
 from .whatif_words import osds_named
 
 
@@ -68,13 +68,14 @@ def groups_in_words(cluster: Cluster, text: str) -> Iterable[str]:
 def filter_words(arguments: Arguments, leaves: str | None = None) -> FilterWords:
     """The words of the command line."""
     own = arguments
-    return FilterWords(own.osd, own.host, own.of_class, leaves, own.of_pool, own.pg)
+    return FilterWords(own.of_osd, own.of_host, own.of_class, leaves, own.of_pool, own.of_pg)
 
 
 def add_filter_words(own: argparse.ArgumentParser, verb: str) -> None:
     """The options that choose groups, which are held or let go."""
-    own.add_argument("--osd", metavar="OSD,..", help=f"only groups with a place on one of these OSDs are {verb}")
-    own.add_argument("--host", metavar="BUCKET,..", help="only those with a place below one of these buckets")
+    own.add_argument("--of-osd", metavar="OSD,..", help=f"only groups with a place on one of these OSDs are {verb}")
+    own.add_argument("--of-host", metavar="BUCKET,..", help="only those with a place below one of these buckets")
     own.add_argument("--of-class", metavar="CLASS,..", help="only those with a place on an OSD of these device classes")
     own.add_argument("--of-pool", metavar="ID|NAME,..", help="only those of these pools")
-    own.add_argument("--pg", metavar="PG,..", help="only these groups")
+    own.add_argument("--of-pg", metavar="PG,..", help="only these groups")
+    rename(own, {"--osd": "--of-osd", "--host": "--of-host", "--pg": "--of-pg"})

@@ -1,7 +1,7 @@
 """`hold`: exceptions that keep the data of every group where it is behind a change, as the commands that Ceph takes.
 
 The change is told in one of three forms: by the words of `whatif` behind two dumps of today; by the dumps before and
-behind it; or by `--at` and the dumps behind it, where `ceph pg dump -f json` tells where the data is. Standard error
+behind it; or by `--pgs` and the dumps behind it, where `ceph pg dump -f json` tells where the data is. Standard error
 tells how many groups the change would move, how many of them are held, and each that cannot be, by its reason. The
 program judges the commands as printed before anything is put out: each is accepted, each exception stays, and each
 group has the set that is told.
@@ -13,29 +13,42 @@ given its command. With --undo the same words give the commands that bring the e
 
 from __future__ import annotations
 
-import sys
 from dataclasses import astuple, dataclass, replace
 
 from ..cluster.group_dumps import group_data_in
 from ..cluster.aftermath import Command
 from ..cluster.cluster import Cluster
 from ..cluster.imports import ImportedCluster, imported
+from ..cluster.pools_beside import beside, check_leaving
 from ..cluster.sources import Source
 from ..cluster.unrest import growth_words
 from ..cluster.told_view import in_placed_order
 from ..cluster.view import ClusterView, as_in_ceph
-from ..faults import Fault, Misuse
+from ..faults import Fault, Misuse, Wait
 from ..output.hold_heads import HoldChange, head_of
 from ..output.hold_words import ROUND, hold_lines, hold_script, idle_lines
 from ..output.json_output import put_json
 from ..output.origins import Origin, origin_of
 from ..output.prepare_words import BEFORE_WORD, prepare_lines, prepare_scripts
+from ..plans.drain_stages import after_all
 from ..plans.hold import Hold, Sides, counts_in, hold_of, mapped_sets, sides_of_change
-from ..plans.hold_checks import check_counts, check_sides, check_still, check_torn, much_moving, told_words
+from ..plans.hold_checks import check_counts, check_sides, check_still, check_told, check_torn, much_moving, told_words
 from ..plans.prepare import prepare_of
 from ..plans.question import sets_of_maps
+from ..running import tell
 from ..values import SLOTS
-from .arguments import MORE, Arguments, Commands, add_dump_options, reading, set_work, source_of
+from .arguments import (
+    MORE,
+    Arguments,
+    Commands,
+    add_dump_options,
+    add_leaving,
+    leaving_of,
+    reading,
+    rename,
+    set_work,
+    source_of,
+)
 from .change_words import ChangeWords, add_change_words, change_words, files_and_change
 from .filter_words import FilterWords, add_filter_words, filter_words
 from .hold_instead import Tried, instead_of
@@ -48,7 +61,7 @@ FORMS = "OSD_DUMP CRUSH_DUMP [CHANGE] | OLD_OSD_DUMP OLD_CRUSH_DUMP NEW_OSD_DUMP
 class HoldOptions:
     """The dumps before the change, and those behind it where they are given; the words of the change; the file that
     tells where the data is, if there is one; whether a cluster that moves is held too; how it is put out; which groups
-    are held; and whether it is told what goes before the change.
+    are held; whether it is told what goes before the change; and which pools are left out although they may move.
     """
 
     old: Source
@@ -59,6 +72,7 @@ class HoldOptions:
     output: PutWords
     chosen: FilterWords
     is_before: bool
+    leaving: tuple[str, ...]
 
     @property
     def is_made(self) -> bool:
@@ -87,21 +101,22 @@ def options_of(arguments: Arguments) -> HoldOptions:
     output = put_words(own, False, own.prepare and own.batch is not None, "--prepare and --batch")
     if len(files) not in (2, 4):
         raise Misuse("hold takes the two dumps of today and a change, or those before and behind it")
-    if len(files) == 4 or own.at is not None:
-        given = asked.given() + (["--at"] if own.at is not None and len(files) == 4 else [])
+    if len(files) == 4 or own.pgs is not None:
+        given = asked.given() + (["--pgs"] if own.pgs is not None and len(files) == 4 else [])
         if given:
-            raise Misuse(f"{given[0]} does not go with {'four dumps' if len(files) == 4 else '--at'}")
+            raise Misuse(f"{given[0]} does not go with {'four dumps' if len(files) == 4 else '--pgs'}")
     elif not asked.given():
-        raise Misuse("nothing is changed: give CHANGE, an option as --crush, the dumps behind it, or --at")
+        raise Misuse("nothing is changed: give CHANGE, an option as --crush, the dumps behind it, or --pgs")
     found = HoldOptions(
         old=source_of(own, files[:2]),
         new=source_of(own, files[2:]) if len(files) == 4 else None,
         asked=asked,
-        at=own.at,
+        at=own.pgs,
         is_anyway=own.anyway,
         output=output,
         chosen=filter_words(own),
         is_before=own.prepare,
+        leaving=leaving_of(own),
     )
     check_before(found)
     return found
@@ -142,7 +157,8 @@ def sides_at(options: HoldOptions, path: str) -> tuple[Sides, frozenset[str]]:
     ups = sets_of_maps(view.maps, program)
     unlike = told_words(view, as_in_ceph(view, ups, program), path, is_whole)
     torn = check_torn(data.torn, len(data.sets), path, options.is_anyway)
-    check_still(growth_words(new) + unlike, options.is_anyway, "held")
+    grows = growth_words(new)
+    check_told(grows + unlike, options.is_anyway, "held", Fault if unlike else Wait)
     return Sides(in_placed_order(view, data.sets, ups), data.counts, new, frozenset(), None), torn
 
 
@@ -185,15 +201,16 @@ def check_printed(hold: Hold, scripts: list[str], options: HoldOptions) -> None:
 def work_before(options: HoldOptions) -> None:
     """Tells what goes before the change, so that a hold then covers it."""
     cluster, steps = change_by_words(options)
-    output = options.output
+    output, found_beside = options.output, beside(cluster, [after_all(cluster, steps)])
+    check_leaving(found_beside, options.leaving, "moved or held")
     found = prepare_of(cluster, steps, output.parts.size(cluster), options.old.program)
-    origin = origin_of(options.old.program, options.files(), cluster, output.is_guarded)
+    origin = origin_of(options.old.program, options.files(), cluster, output.is_guarded).leaving(found_beside)
     scripts = prepare_scripts(found, cluster.all_names(), output.is_undo, origin)
     commands = ["\n".join(line for step in part for line in step.commands) for part in found.parts]
     found.printed.check_scripts(
         *((commands, found.lengths, scripts) if output.is_undo else (scripts, found.lengths, []))
     )
-    print("\n".join(prepare_lines(found)), file=sys.stderr)
+    tell("\n".join(prepare_lines(found) + found_beside.lines()))
     output.put(BEFORE_WORD, scripts)
 
 
@@ -213,13 +230,15 @@ def work(options: HoldOptions) -> None:
         work_before(options)
         return
     sides, torn = sides_of(options)
+    found_beside = sides.beside()
+    check_leaving(found_beside, options.leaving, "held")
     hold = hold_of(sides, options.old.program, replace(options.chosen.chosen(sides.new), passed=torn))
     if hold.is_idle and not options.output.is_undo:
-        raise Fault(*idle_lines(hold, tried_instead(options)))
-    origin = origin_of(options.old.program, options.files(), sides.new, options.output.is_guarded)
+        raise Fault(*idle_lines(hold, [] if hold.is_beside else tried_instead(options)))
+    origin = origin_of(options.old.program, options.files(), sides.new, options.output.is_guarded).leaving(found_beside)
     scripts = scripts_of(sides, hold, options, origin)
     check_printed(hold, scripts, options)
-    print("\n".join(hold_lines(hold)), file=sys.stderr)
+    tell("\n".join(hold_lines(hold) + found_beside.lines()))
     if options.output.is_json:
         put_json("hold", hold.epoch, **hold.told(), commands=hold.commands, undo=hold.undo, **origin.parts())
     else:
@@ -229,12 +248,12 @@ def work(options: HoldOptions) -> None:
 def add_to(commands_of: Commands) -> None:
     """The subcommand."""
     own = commands_of.add_parser(
-        "hold", help="exceptions that hold groups behind a change; with --at cancel backfill", description=__doc__
+        "hold", help="exceptions that hold groups behind a change; with --pgs cancel backfill", description=__doc__
     )
     own.usage = (
-        f"%(prog)s OSD_DUMP CRUSH_DUMP [CHANGE] [--crush FILE] [--to FILE] {MORE}\n"
-        f"       %(prog)s OLD_OSD_DUMP OLD_CRUSH_DUMP NEW_OSD_DUMP NEW_CRUSH_DUMP [--to FILE] {MORE}\n"
-        f"       %(prog)s --at PGS OSD_DUMP CRUSH_DUMP [--to FILE] {MORE}"
+        f"%(prog)s OSD_DUMP CRUSH_DUMP [CHANGE] [--crush FILE] {MORE}\n"
+        f"       %(prog)s OLD_OSD_DUMP OLD_CRUSH_DUMP OSD_DUMP CRUSH_DUMP {MORE}\n"
+        f"       %(prog)s OSD_DUMP CRUSH_DUMP --pgs PGS {MORE}"
     )
     own.add_argument(
         "words",
@@ -245,7 +264,8 @@ def add_to(commands_of: Commands) -> None:
     )
     add_change_words(own)
     about = "what `ceph pg dump -f json` prints: hold the data where it is by it"
-    reading(own).add_argument("--at", metavar="PGS", help=about)
+    reading(own).add_argument("--pgs", metavar="PGS", help=about)
+    rename(own, {"--at": "--pgs"})
     own.add_argument("--anyway", action="store_true", help="also where the cluster moves already, or is degraded")
     add_put_words(own, "the commands that bring the exceptions of the dump back", file_or_folder("hold"))
     own.add_argument(
@@ -256,5 +276,6 @@ def add_to(commands_of: Commands) -> None:
     )
     add_filter_words(own, "held")
     add_dump_options(own)
+    add_leaving(own)
     own.set_defaults(names=None)
     set_work(own, options_of, work)

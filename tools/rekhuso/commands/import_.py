@@ -9,7 +9,6 @@ none is a map of its own.
 from __future__ import annotations
 
 import json
-import sys
 from dataclasses import dataclass
 
 from ..cluster.advice import Advised
@@ -20,6 +19,7 @@ from ..cluster.imports import ImportedCluster, imported, map_file, names_of_pool
 from ..cluster.map_parts import map_clusters
 from ..cluster.names import with_pool_names
 from ..cluster.omissions import omissions_of, weightless
+from ..cluster.pools_beside import beside, beside_lines
 from ..cluster.reasons import reasons
 from ..cluster.sources import DumpFiles
 from ..cluster.told_sets import Verified
@@ -29,13 +29,15 @@ from ..cluster.view import ClusterView, sets_in
 from ..faults import Fault, Misuse
 from ..files import JsonObject, put, put_folder
 from ..output.json_output import put_json
-from ..plans.hold_checks import check_still
+from ..plans.hold_checks import check_told
 from ..program.maps import Program, written
+from ..running import tell
 from ..values import SLOTS
 from ..words import counted
 from .arguments import (
     ABOUT_DUMPS,
     DUMPS,
+    MORE,
     Arguments,
     Commands,
     Dumps,
@@ -43,8 +45,10 @@ from .arguments import (
     add_json,
     putting,
     reading,
+    rename,
     set_work,
 )
+from .put_words import check_place
 
 
 @dataclass(frozen=True, **SLOTS)
@@ -67,17 +71,19 @@ class ImportOptions:
 def options_of(arguments: Arguments) -> ImportOptions:
     """The options of the command line. An error of use for options that write files beside those that do not."""
     own = arguments
-    if own.check and (own.out is not None or own.names is not None):
-        raise Misuse("--check writes no files: --out and --names do not go with it")
-    if own.json and own.out is not None:
-        raise Misuse("--json tells all maps at once: --out does not go with it")
+    if own.check and (own.to is not None or own.names is not None):
+        raise Misuse("--check writes no files: --to and --names do not go with it")
+    if own.json and own.to is not None:
+        raise Misuse("--json tells all maps at once: --to does not go with it")
     if (own.pgs is not None or own.anyway) and not own.check:
         raise Misuse("--pgs and --anyway go with --check")
+    if own.to is not None:
+        check_place(own.to, True)
     dumps = DumpFiles(own.files[0], own.files[1], own.tree, own.pools, own.unmatched, own.program)
     return ImportOptions(
         dumps=dumps,
         program=own.program,
-        out=own.out,
+        out=own.to,
         names=own.names,
         is_check=own.check,
         is_json=own.json,
@@ -122,13 +128,15 @@ def check(options: ImportOptions) -> None:
         told = {"comes_in": not found, "reasons": lines, "maps": [{"pools": own} for own in pools]}
         told.update(against=[own.parts() for own in found])
         told.update(unrest=told_unrest(cluster), verified=None if lies is None else lies.counts())
+        told.update(beside(cluster).parts())
         put_json("import", cluster.epoch, **told)
     if found:
         raise Fault(*lines, f"the cluster stays out, for {counted(len(found), 'reason')}")
     if not options.is_json:
         comes = "the cluster comes in" + (f"; {several_words(parts)}" if len(parts) > 1 else " as one map")
-        print("\n".join([comes, *unrest_lines(cluster), *([] if lies is None else [lies.summary()])]))
-    check_still([] if lies is None else lies.against(), options.is_anyway, "taken for the cluster's")
+        lines = [*unrest_lines(cluster), *([] if lies is None else [lies.summary()]), *beside_lines(cluster)]
+        print("\n".join([comes, *lines]))
+    check_told([] if lies is None else lies.against(), options.is_anyway, "taken for the cluster's")
 
 
 def omission_lines(cluster: Cluster, has_names: bool) -> list[str]:
@@ -166,7 +174,8 @@ def put_import_json(found: ImportedCluster) -> None:
         {"pools": [pool["pool"] for pool in part.pools], "map": value} for part, value in zip(found.parts, found.maps)
     ]
     notes = omission_lines(found.cluster, True)
-    put_json("import", found.cluster.epoch, maps=maps, names=names_file(found.cluster), notes=notes)
+    parts = {"maps": maps, "names": names_file(found.cluster), "notes": notes}
+    put_json("import", found.cluster.epoch, **parts, **beside(found.cluster).parts())
 
 
 def work(options: ImportOptions) -> None:
@@ -184,8 +193,8 @@ def work(options: ImportOptions) -> None:
     if options.is_json:
         put_import_json(found)
         return
-    for line in omission_lines(found.cluster, bool(options.names)):
-        print(line, file=sys.stderr)
+    for line in omission_lines(found.cluster, bool(options.names)) + beside_lines(found.cluster):
+        tell(line)
     if options.out is None:
         print(written(found.maps[0]))
     else:
@@ -195,9 +204,11 @@ def work(options: ImportOptions) -> None:
 def add_to(commands: Commands) -> None:
     """The subcommand."""
     own = commands.add_parser("import", help="a map of what Ceph's tools dump", description=__doc__)
+    own.usage = f"%(prog)s OSD_DUMP CRUSH_DUMP {MORE}"
     own.add_argument("files", metavar=DUMPS, nargs="+", action=Dumps, help=ABOUT_DUMPS)
     read, written_to = reading(own), putting(own)
-    written_to.add_argument("--out", metavar="FOLDER", help="write every map that the cluster takes into this folder")
+    written_to.add_argument("--to", metavar="FOLDER", help="write every map that the cluster takes into this folder")
+    rename(own, {"--out": "--to"})
     own.add_argument(
         "--check", action="store_true", help="only tell whether the cluster comes in, and if not why, and what to do"
     )

@@ -16,13 +16,14 @@ from __future__ import annotations
 
 import json
 import pathlib
-import sys
 import tempfile
 from dataclasses import dataclass, replace
 
+from ..cluster.binary_maps import is_binary_map
 from ..cluster.cluster import Cluster
 from ..cluster.group_states import GroupState, states_by_temps, states_in
 from ..cluster.imports import imported
+from ..cluster.pools_beside import beside, beside_lines
 from ..cluster.reports import with_both
 from ..cluster.sources import Source
 from ..cluster.view import view_of_cluster
@@ -34,6 +35,7 @@ from ..plans.carried import parts_of_plan
 from ..plans.guards import NO_GUARDS, guards_of
 from ..plans.next_step import Amount, NextStep, NextWish, next_step
 from ..plans.question import sets_of_maps
+from ..running import tell
 from ..values import SLOTS
 from .arguments import MORE, Arguments, Commands, add_dump_options, add_guard, add_json, reading, set_work, source_of
 from .part_words import PartWords, add_part_words, number_of_moves
@@ -74,6 +76,8 @@ def cluster_of(options: NextOptions) -> Cluster:
     """The cluster of two dumps, or of a report. A fault where it stays out."""
     if options.report is None:
         return imported(options.source.dumps()).cluster
+    if is_binary_map(options.report):
+        return imported(replace(options.source, paths=(options.report, options.report)).dumps()).cluster
     report = json_of(options.report, "osdmap", "crushmap")
     with tempfile.TemporaryDirectory() as folder:
         paths = [pathlib.Path(folder, name) for name in ("osdmap", "crushmap")]
@@ -97,11 +101,11 @@ def progress_parts(own: Amount) -> dict[str, int | None]:
     return {"groups": own.groups, "places": own.places, "bytes": own.size}
 
 
-def put_next_json(found: NextStep, epoch: int) -> None:
+def put_next_json(found: NextStep, cluster: Cluster) -> None:
     """Puts out what is done, under way and left, and the commands, as one object."""
     put_json(
         "next",
-        epoch,
+        cluster.epoch,
         status=found.status,
         commands=[line for line in found.text.splitlines() if line.startswith("ceph ")],
         part=found.part or None,
@@ -113,6 +117,7 @@ def put_next_json(found: NextStep, epoch: int) -> None:
         osds=[
             {"id": osd, "under_way": come, "left": left, "to_go": go} for osd, (come, left, go) in found.by_osd.items()
         ],
+        **beside(cluster).parts(),
     )
 
 
@@ -122,9 +127,9 @@ def work(options: NextOptions) -> int:
     guards = guards_of(cluster) if options.is_guarded else NO_GUARDS
     wish = NextWish(options.most, options.parts.size(cluster).busy, guards)
     found = next_step(cluster, parts, states_of(options, cluster), wish, options.source.program)
-    print("\n".join(next_lines(found)), file=sys.stderr)
+    tell("\n".join(next_lines(found) + beside_lines(cluster)))
     if options.is_json:
-        put_next_json(found, cluster.epoch)
+        put_next_json(found, cluster)
     else:
         print(found.text, end="")
     return found.status

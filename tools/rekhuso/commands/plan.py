@@ -3,14 +3,18 @@
 The proved balancer plans each pool beside what its OSDs carry from all others, so that the cluster gets more even too:
 by groups, and with --df by bytes. A plan of a pool moves only between OSDs that differ by more than twice --deviation
 groups; 0.5 is every move. A plan goes on until a plan over what it makes is empty, or tells how many commands that has.
-The first commands are worth most. With --pool or --class only some pools are planned, for the sake of all; with --alone
-each pool is planned by itself. Standard error tells how even the cluster is before and after, and then each pool.
+The first commands are worth most. With --of-pool or --of-class only some pools are planned, for the sake of all; with
+--alone each pool is planned by itself. Standard error tells how even the cluster is before and after, and then each
+pool.
 
 Comments above the commands tell what one must know before they are run, and a table below them what moves, by pool and
 by OSD. The commands are the difference of the two maps' exceptions, where each group has the fewest pairs that lead to
 its set (as `net` has them). With --undo the same words give the commands that take the exceptions of these groups back
 to what they are now, whichever part of the plan was run. With --batch the commands go into files that are run one
 after the other.
+
+With --reads no data moves: the plan names the fewest primaries after which each OSD leads its share of the groups of
+each replicated pool, and of all these pools together.
 
 Before anything is put out the program judges it as printed: it accepts each command in this order, tells every count
 on the way, and says of each exception that Ceph's monitor leaves it. Where something is wrong the command is named, and
@@ -22,8 +26,7 @@ from __future__ import annotations
 import argparse
 import json
 import re
-import sys
-from collections.abc import Mapping
+from collections.abc import Callable, Mapping
 from contextlib import ExitStack
 from dataclasses import dataclass, replace
 from fractions import Fraction
@@ -42,17 +45,20 @@ from ..cluster.primaries import rested_words
 from ..cluster.releases import least_client
 from ..cluster.sources import Source
 from ..cluster.unrest import Unrest
-from ..cluster.view import ClusterView, as_in_ceph, has_other_weights, no_plan_words, tree_in
+from ..cluster.view import ClusterView, as_in_ceph, has_other_weights, no_plan_words, tree_in, under_tree
 from ..faults import Fault, Misuse
+from ..files import put
 from ..output.json_output import put_json
 from ..output.origins import Origin, origin_of, origin_of_map
-from ..output.plan_scripts import Script, WATCH, balancer_words, client_words, part_file
+from ..output.osd_picture import plan_picture
+from ..output.plan_scripts import PlanScript, WATCH, balancer_words, client_words, part_file
 from ..output.plan_states import reasons_of, state_line, state_of
-from ..output.plan_words import plan_lines, quiet_words, worth_words
+from ..output.plan_words import all_pools_words, plan_lines, quiet_words, worth_words
 from ..output.refusal_words import refusal_words
+from ..plans.all_pools import AllPools, all_pools
 from ..plans.after_plan import quiet_deviation, rested_after
 from ..plans.busy import ALL
-from ..plans.hold_checks import check_still, told_words
+from ..plans.hold_checks import check_told, told_words
 from ..plans.movement import PlaceBytes, place_bytes
 from ..plans.plan import Outcome, Wish, leave_alone, misplaced_in, outage_in, planned
 from ..plans.pool_choice import pools_on
@@ -60,9 +66,9 @@ from ..plans.printed import Asked, Printed
 from ..plans.rounds import Live, MOST_MOVES
 from ..plans.steps import steps_by_pool
 from ..program.maps import Map, Program, altered
-from ..progress import doing
+from ..running import doing, tell
 from ..values import SLOTS
-from .arguments import Arguments, Commands, add_files, putting, reading, set_work, source_of
+from .arguments import Arguments, Commands, add_files, putting, reading, rename, set_work, source_of
 from .filter_words import osds_of_classes
 from .put_words import PutWords, add_put_words, commands_a_file, file_or_folder, put_words
 
@@ -78,8 +84,9 @@ class ToldPlan:
     """What is told of plans: the epoch of the map, what the plans are, what the groups weigh, names, from which number
     on Ceph's own balancer leaves the plan alone, if that is known; and of dumps the groups whose named primary does
     nothing any more afterwards, the release that clients must have at least, and what is still to come from before; and
-    by what the commands are judged before they are put out; the pools that are not at rest; and where the scripts come
-    from.
+    by what the commands are judged before they are put out; the pools that are not at rest; where the scripts come
+    from; how even the cluster is by all pools that can be placed, where only some were read; and the picture of the
+    OSDs before and after, if one is asked for.
     """
 
     epoch: int
@@ -93,12 +100,15 @@ class ToldPlan:
     printed: Printed
     unrest: Mapping[int, Unrest]
     origin: Origin
+    all_pools: AllPools | None = None
+    picture: str = ""
 
     def lines(self, deviation: Fraction | None) -> list[str]:
         """All that is told of plans on standard error."""
         found = plan_lines(self.outcome, self.names, deviation) + quiet_words(self.quiet)
         found += worth_words(self.outcome, self.weights.moving(self.outcome.steps))
-        return found + ([rested_words(self.rested)] if self.rested else [])
+        found += [rested_words(self.rested)] if self.rested else []
+        return found + all_pools_words(self.all_pools, self.names) + self.origin.beside.lines()
 
 
 @dataclass(frozen=True, **SLOTS)
@@ -121,8 +131,9 @@ class Holdings:
 class PlanOptions:
     """What is planned over, and how: which pools, by their names or by the device classes of their OSDs, at most how
     many commands, until the fullest OSD is at which ratio to its share, how near to the shares, whether each pool by
-    itself, whether for room alone, whether by weights alone, whether amid an outage too, and by which file of data; how
-    it is put out; and whether only that is told, which of three it is.
+    itself, whether for room alone, whether by weights alone or by reach alone, whether amid an outage too, and by which
+    file of data; how it is put out; whether only that is told, which of three it is; and the file for a picture, if
+    there is one.
     """
 
     source: Source
@@ -134,10 +145,12 @@ class PlanOptions:
     is_alone: bool
     is_room: bool
     is_by_weight: bool
+    is_by_reach: bool
     is_anyway: bool
     data: DataFiles
     output: PutWords
     is_state: bool
+    picture: str | None
 
     def files(self) -> list[str | None]:
         """All files that a plan goes by."""
@@ -155,26 +168,30 @@ def options_of(arguments: Arguments) -> PlanOptions:
         raise Misuse(f"--deviation {float(own.deviation):g}: 0.5 is the whole plan; less goes with --alone")
     if own.room and (own.df is own.pgs is None or own.alone or own.deviation is not None):
         raise Misuse("--room goes by the data that --df tells; --alone and --deviation do not go with it")
+    if own.by_weight and own.by_reach:
+        raise Misuse("--by-weight and --by-reach do not go together")
     if own.osds is not None and own.df is own.pgs is None:
         raise Misuse("--osds goes with --df or --pgs, which tell what moves")
     if own.alone and own.until is not None:
         raise Misuse("--until takes the first commands, which are worth most: those of --alone are in no such order")
-    if own.alone and own.max is not None and own.max > MOST_MOVES:
-        raise Misuse(f"--max {own.max}: with --alone at most {MOST_MOVES} moves a pool")
+    if own.alone and own.first is not None and own.first > MOST_MOVES:
+        raise Misuse(f"--first {own.first}: with --alone at most {MOST_MOVES} moves a pool")
     return PlanOptions(
         source=source_of(own),
-        pools=tuple(own.pool or ()),
-        classes=getattr(own, "class"),
-        most=own.max,
+        pools=tuple(own.of_pool or ()),
+        classes=own.of_class,
+        most=own.first,
         until=own.until,
         deviation=own.deviation,
         is_alone=own.alone,
         is_room=own.room,
         is_by_weight=own.by_weight,
+        is_by_reach=own.by_reach,
         is_anyway=own.anyway,
         data=DataFiles(own.df, own.pgs, own.osds),
         output=output,
         is_state=own.status,
+        picture=own.picture,
     )
 
 
@@ -188,7 +205,7 @@ def pools_of(options: PlanOptions, lives: list[Live], names: Names, held: Holdin
         return frozenset(named_pools)
     found = pools_on(lives, held.chosen).of(named_pools)
     for line in found.lines(names):
-        print(line, file=sys.stderr)
+        tell(line)
     several = [own for own in found.within if own in named_pools or options.is_alone or pools[own]["pg_num"] > 1]
     if not several:
         raise Fault(f"no pool of several groups lies on OSDs of device class {options.classes} alone")
@@ -207,7 +224,17 @@ def wish_of(options: PlanOptions, lives: list[Live], names: Names, held: Holding
     forms = options.is_alone, options.is_room, options.is_by_weight
     busy = parts.busy(held.tree)
     return Wish(
-        named_pools, options.deviation, most, parts.batch or ALL, *forms, data, held.nearfull, busy, options.until
+        named_pools,
+        options.deviation,
+        most,
+        parts.batch or ALL,
+        *forms,
+        data,
+        held.nearfull,
+        busy,
+        options.until,
+        options.is_by_reach,
+        options.is_anyway,
     )
 
 
@@ -242,6 +269,14 @@ def told_by(lives: list[Live], options: PlanOptions, names: Names, held: Holding
     return ToldPlan(origin.epoch, outcome, weights, names, quiet, [], None, None, printed, {}, origin)
 
 
+def pictured(told: ToldPlan, whole: ClusterView, lives: list[Live], options: PlanOptions) -> ToldPlan:
+    """Plans with their picture, where one is asked for."""
+    if options.picture is None:
+        return told
+    ups = {group: up for live in lives for group, up in live.before.ups.items()}
+    return replace(told, picture=plan_picture(whole, ups, told.outcome.steps))
+
+
 def plan_of_map(options: PlanOptions, known: KnownData) -> ToldPlan:
     """The plans of a map in a file, and what is known of the data of its pools."""
     source = options.source
@@ -268,17 +303,18 @@ def plan_of_map(options: PlanOptions, known: KnownData) -> ToldPlan:
         live = Live(value, value, names, judge_of_map(value, names), monitor)
         origin = origin_of_map(source.program, options.files(), value, names, options.output.is_guarded)
         told = told_by([live], options, names, held, origin)
-    return told
+    return pictured(told, under_tree(value, names, tree), [live], options)
 
 
-def check_told(whole: ClusterView, lives: list[Live], options: PlanOptions) -> None:
+def check_lies(whole: ClusterView, lives: list[Live], options: PlanOptions) -> None:
     """A fault where a dump of groups says that the cluster lies elsewhere than its maps say, unless it is planned
     nonetheless.
     """
     if options.data.pgs is not None:
         source, ups = options.source, {group: up for live in lives for group, up in live.before.ups.items()}
         sets = as_in_ceph(whole, ups, source.program)
-        check_still(told_words(whole, sets, options.data.pgs, source.pools is None), options.is_anyway, "planned")
+        unlike = told_words(whole, sets, options.data.pgs, source.pools is None)
+        check_told(unlike, options.is_anyway, "planned")
 
 
 def plan_of_dumps(options: PlanOptions, known: KnownData) -> ToldPlan:
@@ -307,31 +343,31 @@ def plan_of_dumps(options: PlanOptions, known: KnownData) -> ToldPlan:
         leave_alone(lives, cluster, options.is_anyway)
         misplaced = misplaced_in(lives, whole)
         check_misplaced(misplaced, options.is_anyway)
-        check_told(whole, lives, options)
+        check_lies(whole, lives, options)
         origin = origin_of(source.program, options.files(), cluster, options.output.is_guarded)
-        told = told_by(lives, options, names, held, origin)
+        told = pictured(told_by(lives, options, names, held, origin), whole, lives, options)
     rested = rested_after(whole, told.outcome.steps, source.program)
+    others = None if source.pools is None else all_pools(source.dumps(), cluster, told.outcome.steps)
     # Ceph's own balancer takes a reweight above 1 as it is, and placement takes it as 1.
     is_known = all(own["weight"] <= 1 for own in found.cluster.osds.values())
     client = least_client(found.cluster.osd_dump)
     quiet = told.quiet if is_known else None
-    return replace(told, quiet=quiet, rested=rested, client=client, misplaced=misplaced, unrest=whole.unrest)
+    told = replace(told, quiet=quiet, rested=rested, client=client, misplaced=misplaced, unrest=whole.unrest)
+    return replace(told, all_pools=others)
 
 
 # What is put out
 
 
-def put_plan_json(told: ToldPlan) -> None:
-    """Puts out the plan, its undoing, how even it leaves the cluster, and what moves as one object."""
+def plan_value(told: ToldPlan) -> dict[str, object]:
+    """The plan, its undoing, how even it leaves the cluster, and what moves as JSON has them."""
     weights, steps, outcome = told.weights, told.outcome.steps, told.outcome
     stopped = [[osd, count] for osd, count in sorted(outcome.stopped.items())]
     own, pools = steps_by_pool(steps), []
     for parts in outcome.pools:
         moving = weights.moving(own.get(parts["id"], []))
         pools.append(altered(parts, places=moving["places"], bytes=moving["bytes"], share=moving["share"]))
-    put_json(
-        "plan",
-        told.epoch,
+    return dict(
         state=state_of(outcome),
         why=reasons_of(outcome),
         commands=[line for step in steps for line in step.commands],
@@ -343,6 +379,7 @@ def put_plan_json(told: ToldPlan) -> None:
             "least": round(outcome.least, 4),
         },
         **({} if outcome.data is None else {"data": dict(outcome.data, stopped=stopped)}),
+        **({} if outcome.chosen is None else {"shares": outcome.chosen.parts()}),
         taken_out=outcome.taken_out,
         idle_primaries=told.rested,
         worth=None if outcome.worth is None else outcome.worth.parts(),
@@ -352,23 +389,25 @@ def put_plan_json(told: ToldPlan) -> None:
         moving=weights.moving(steps),
         osds=weights.by_osd(steps),
         pools=pools,
+        **({} if told.all_pools is None else {"all_pools": told.all_pools.parts()}),
         **told.origin.parts(),
     )
 
 
-def script_of(told: ToldPlan, options: PlanOptions, number: int = 1, count: int = 1) -> Script:
+def script_of(told: ToldPlan, options: PlanOptions, number: int = 1, count: int = 1) -> PlanScript:
     """What stands round the commands of a plan or of one of several parts of it, or of what takes these back."""
     is_undo, part = options.output.is_undo, f", part {number} of {count}" if options.output.is_parted else ""
     before = balancer_words(None if is_undo else told.quiet) + client_words(told.client) + WATCH
     if is_undo:
         title = f"The way back from a plan over epoch {told.epoch}{part}"
         end = "after:  these groups have the exceptions of that epoch again, whichever part of the plan was run"
-        return Script(title, [*before, end], told.weights, told.names, told.origin)
+        origin = told.origin.turned("undo of a plan", number, count)
+        return PlanScript(title, [*before, end], told.weights, told.names, origin)
     order = [f"order:  part {number - 1} is run before, and its groups have moved"] if number > 1 else []
     undo = UNDO + (f", write {part_file('undo', number, count)}" if part else "")
     notes = [*order, undo] if part else [PARTS, undo]
     title = f"A plan over epoch {told.epoch}{part}"
-    return Script(title, before + notes, told.weights, told.names, told.origin)
+    return PlanScript(title, before + notes, told.weights, told.names, told.origin.turned("plan", number, count))
 
 
 def scripts_of(told: ToldPlan, options: PlanOptions) -> list[str]:
@@ -403,16 +442,37 @@ def work(options: PlanOptions) -> None:
     told = plan_of_dumps(options, known) if options.source.has_dumps else plan_of_map(options, known)
     scripts = scripts_of(told, options)
     check_printed(told, scripts, options)
-    print("\n".join(told.lines(options.deviation)), file=sys.stderr)
+    if options.picture is not None:
+        put(options.picture, told.picture)
+    tell("\n".join(told.lines(options.deviation)))
     if options.output.is_json:
-        put_plan_json(told)
+        put_json("plan", told.epoch, **plan_value(told))
     elif options.is_state:
-        print(state_line(told.outcome))
+        print(state_line(told.outcome) + told.origin.beside.state_words)
     else:
         options.output.put("plan", scripts)
 
 
 # The command line
+
+
+Asking = Callable[[], None]
+
+
+def asked_for(arguments: Arguments) -> Asking:
+    """The plan that the command line asks for: of who leads groups, or of what moves."""
+    if arguments.reads:
+        from .plan_reads import put_reads, read_options
+
+        reads = read_options(arguments)
+        return lambda: put_reads(reads)
+    options = options_of(arguments)
+    return lambda: work(options)
+
+
+def make(asking: Asking) -> None:
+    """Makes the plan that is asked for."""
+    asking()
 
 
 def ratio_word(word: str) -> float:
@@ -439,19 +499,19 @@ def add_to(commands_of: Commands) -> None:
     """The subcommand."""
     own = commands_of.add_parser("plan", help="a balancer's plan as Ceph's commands", description=__doc__)
     add_files(own)
-    undo = "the commands that take the groups of the plan back to the exceptions that they have in the files given"
+    undo = "the way back to the exceptions in the files given, for the groups of the plan"
     add_put_words(own, undo, file_or_folder("plan"))
     own.add_argument(
-        "--pool",
+        "--of-pool",
         metavar="ID|NAME,..",
         action="append",
         help="plan only these pools, for the sake of all; may be given again (else all of several groups)",
     )
     own.add_argument(
-        "--class", metavar="CLASS,..", help="plan only the pools that lie on OSDs of these device classes alone"
+        "--of-class", metavar="CLASS,..", help="plan only the pools that lie on OSDs of these device classes alone"
     )
     own.add_argument(
-        "--max",
+        "--first",
         metavar="N",
         type=commands_a_file,
         help="the first N commands, which are worth most; with --alone at most N moves a pool",
@@ -460,8 +520,8 @@ def add_to(commands_of: Commands) -> None:
         "--until",
         metavar="RATIO",
         type=ratio_word,
-        help="the first commands, as many as bring the fullest OSD to this ratio to its share, as 1.08: by bytes where "
-        "--df or --pgs tells them, else by groups",
+        help="until the fullest OSD is at this ratio to its share, as 1.08: by bytes where --df or --pgs tells them, "
+        "else by groups; the commands are the first ones of the plan",
     )
     own.add_argument(
         "--deviation",
@@ -482,6 +542,11 @@ def add_to(commands_of: Commands) -> None:
         help="go by shares by weight alone, as Ceph's balancer does, also where a rule can never give them",
     )
     own.add_argument(
+        "--by-reach",
+        action="store_true",
+        help="go by what the rule of each pool can give; where that is not by weight, else the best plan is taken",
+    )
+    own.add_argument(
         "--anyway",
         action="store_true",
         help="a plan also amid an outage, or while 5 %% of the places are still to move: Ceph's balancer would wait",
@@ -491,8 +556,16 @@ def add_to(commands_of: Commands) -> None:
         action="store_true",
         help="in place of the commands one line: planned, nothing to do, or nothing can be planned and why",
     )
+    putting(own).add_argument("--picture", metavar="FILE", help="writes beside it the OSDs before and after, as SVG")
+    own.add_argument(
+        "--reads",
+        action="store_true",
+        help="plan who leads and not what moves: the fewest primaries to name, after which each OSD leads its share of "
+        "the groups of each replicated pool (Ceph 18.2 and later)",
+    )
     add_data_files(own)
-    set_work(own, options_of, work)
+    rename(own, {"--pool": "--of-pool", "--class": "--of-class", "--max": "--first"})
+    set_work(own, asked_for, make)
 
 
 def add_data_files(own: argparse.ArgumentParser) -> None:

@@ -5,10 +5,11 @@ are the same for `plan`, `hold`, `release` and `drain`.
 from __future__ import annotations
 
 import argparse
+import os
 import re
 from dataclasses import dataclass
 
-from ..faults import Misuse
+from ..faults import Misuse, Trouble
 from ..files import put
 from ..output.plan_scripts import put_batches
 from ..values import SLOTS
@@ -43,9 +44,25 @@ class PutWords:
             put(self.to, "".join(scripts))
 
 
-def put_words(arguments: Arguments, tells_parts: bool, is_parted: bool, how: str) -> PutWords:
-    """The words of the command line, where the JSON of a command tells parts or not, and there are parts by some words.
-    An error of use for words of which one would be passed over.
+def check_place(path: str, is_folder: bool) -> None:
+    """An error of use where a path is none, or is not one of a file or a folder, whichever is to be written, so that
+    nobody waits for what cannot be put there; a fault where the folder in which it is to stand is not there.
+    """
+    what = "folder" if is_folder else "file"
+    if path in ("", "-"):
+        raise Misuse(f"{path or repr(path)}: no {what}; without --to standard output has what is told")
+    if is_folder and os.path.exists(path) and not os.path.isdir(path):
+        raise Misuse(f"{path}: a file, and parts are written into a folder")
+    if not is_folder and os.path.isdir(path):
+        raise Misuse(f"{path}: a folder; --batch N writes files of N commands into it")
+    above = os.path.dirname(os.path.abspath(path))
+    if not is_folder and not os.path.isdir(above):
+        raise Trouble(f"{path}: the folder {above} is not there")
+
+
+def put_words(arguments: Arguments, tells_parts: bool, is_parted: bool, how: str, is_folder: bool = False) -> PutWords:
+    """The words of the command line, where the JSON of a command tells parts or not, there are parts by some words, and
+    all is put into a folder or not. An error of use for words of which one would be passed over.
     """
     own = arguments
     if own.batch is not None and own.to is None and not (own.json and tells_parts):
@@ -54,6 +71,8 @@ def put_words(arguments: Arguments, tells_parts: bool, is_parted: bool, how: str
         words = "--to and --undo" if tells_parts else "--batch, --to and --undo"
         raise Misuse(f"--json tells the commands and their undoing at once: {words} do not go with it")
     parts = part_words(own, is_parted, how)
+    if own.to is not None:
+        check_place(own.to, is_folder or own.batch is not None)
     return PutWords(is_undo=own.undo, parts=parts, to=own.to, is_json=own.json, is_guarded=not own.no_guard)
 
 

@@ -1,6 +1,6 @@
 """`release`: lets go of what `hold` holds, as the commands that Ceph takes, in parts by the order of plans.
 
-Over the dumps of a cluster with held groups the way leads to what the rules alone give; with --keep OSD_DUMP to the
+Over the dumps of a cluster with held groups the way leads to what the rules alone give; with --before OSD_DUMP to the
 exceptions of a dump that was made before the hold, as far as a monitor lets them stay; and with --to-plan on to what
 `plan` makes of that, where each group moves once. A group that would get fewer places, as its rule finds no more, stays
 held, and is told. Each part tells what it moves, and how full the fullest OSD gets to
@@ -10,7 +10,6 @@ commands as printed before anything is put out, as it does for `plan`.
 
 from __future__ import annotations
 
-import sys
 from dataclasses import dataclass
 
 from ..cluster.cluster import Cluster
@@ -29,12 +28,13 @@ from ..files import json_of
 from ..output.byte_words import byte_lines
 from ..output.json_output import put_json
 from ..output.origins import Origin, origin_of
-from ..output.plan_scripts import Script, WATCH, balancer_words, client_words, part_file
+from ..output.plan_scripts import PlanScript, WATCH, balancer_words, client_words, part_file
 from ..output.release_words import peak_words, release_lines
-from ..plans.hold_checks import check_still, much_moving
+from ..plans.hold_checks import check_still, check_told, much_moving
 from ..plans.movement import place_bytes
 from ..plans.release import Goal, Release, release_of
 from ..program.maps import Exceptions, altered, exceptions_where
+from ..running import tell
 from ..values import SLOTS
 from .arguments import (
     ABOUT_DUMPS,
@@ -45,6 +45,7 @@ from .arguments import (
     Dumps,
     add_dump_options,
     reading,
+    rename,
     set_work,
     source_of,
 )
@@ -76,7 +77,7 @@ def options_of(arguments: Arguments) -> ReleaseOptions:
     own = arguments
     return ReleaseOptions(
         source=source_of(own),
-        keep=own.keep,
+        keep=own.before,
         is_planned=own.to_plan,
         is_anyway=own.anyway,
         output=put_words(own, True, own.batch is not None, "--batch"),
@@ -112,21 +113,23 @@ class Round:
     origin: Origin
 
 
-def script_of(found: Release, round_: Round, options: ReleaseOptions, number: int) -> Script:
+def script_of(found: Release, round_: Round, options: ReleaseOptions, number: int) -> PlanScript:
     """What stands round the commands of a part."""
-    cluster, data, origin = round_.cluster, round_.data, round_.origin
+    cluster, data = round_.cluster, round_.data
     count, names = len(found.parts), cluster.all_names()
+    kind = "undo of a release" if options.output.is_undo else "release"
+    origin = round_.origin.turned(kind, number, count)
     part = f", part {number} of {count}" if options.output.is_parted else ""
     weights = place_bytes(found.pools, data)
     before = balancer_words(None) + client_words(least_client(cluster.osd_dump)) + WATCH
     if options.output.is_undo:
         title = f"The way back from a release over epoch {found.epoch}{part}"
-        return Script(title, before, weights, names, origin)
+        return PlanScript(title, before, weights, names, origin)
     order = [f"order:  part {number - 1} is run before, and its groups have moved"] if number > 1 else []
     undo = UNDO + (f", write {part_file('undo', number, count)}" if part else "")
     notes = [f"peak:   {peak_words(found, number)}", *order, "stop:   give no further part", undo]
     title = f"Releases held groups over epoch {found.epoch}{part}"
-    return Script(title, before + notes, weights, names, origin)
+    return PlanScript(title, before + notes, weights, names, origin)
 
 
 def scripts_of(found: Release, round_: Round, options: ReleaseOptions) -> list[str]:
@@ -174,6 +177,17 @@ def put_release_json(found: Release, data: Data | None, origin: Origin) -> None:
     )
 
 
+def fuller_words(found: Release) -> list[str]:
+    """That the fullest OSD by bytes would be fuller than it is; nothing where it would not, or nobody tells."""
+    if found.fill is None:
+        return []
+    before, after = round(found.fill.before.fullest(), 2), round(found.fill.after.fullest(), 2)
+    told = (
+        f"by bytes the fullest OSD has {before:.2f} of its share, and would have {after:.2f} by this plan, which goes "
+    )
+    return [f"{told}by groups: `plan` with the same files goes by bytes"] if after > before else []
+
+
 def work(options: ReleaseOptions) -> None:
     """Tells the way from what is held."""
     source, program = options.source, options.source.program
@@ -186,8 +200,10 @@ def work(options: ReleaseOptions) -> None:
     origin = origin_of(program, files, cluster, options.output.is_guarded)
     scripts = scripts_of(found, Round(cluster, data, origin), options)
     check_printed(found, scripts, options)
+    check_told(fuller_words(found) if options.is_planned else [], options.is_anyway, "released")
     weights = place_bytes(found.pools, data)
-    print("\n".join(release_lines(found, weights) + byte_lines(found.fill, cluster.all_names())), file=sys.stderr)
+    lines = release_lines(found, weights) + byte_lines(found.fill, cluster.all_names()) + origin.beside.lines()
+    tell("\n".join(lines))
     if options.output.is_json:
         put_release_json(found, data, origin)
     else:
@@ -204,7 +220,8 @@ def add_to(commands_of: Commands) -> None:
         "files", metavar=DUMPS, nargs="+", action=Dumps, help=f"{ABOUT_DUMPS}: those of the cluster as it is held"
     )
     about = "the dump before the hold, whose exceptions are kept"
-    reading(own).add_argument("--keep", metavar="OSD_DUMP", help=about)
+    reading(own).add_argument("--before", metavar="OSD_DUMP", help=about)
+    rename(own, {"--keep": "--before"})
     own.add_argument("--to-plan", action="store_true", help="on to what `plan` makes of the cluster, each group once")
     own.add_argument("--anyway", action="store_true", help="also where the cluster moves already, or amid an outage")
     add_put_words(own, "the way back to what is held in the dumps", file_or_folder("release"))

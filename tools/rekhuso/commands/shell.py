@@ -20,6 +20,7 @@ from dataclasses import dataclass
 from ..cluster.conversion import monitor_of
 from ..cluster.imports import imported
 from ..cluster.map_files import map_monitor
+from ..cluster.pools_beside import beside_lines
 from ..cluster.names import Names, named, names_in
 from ..cluster.sources import Source
 from ..faults import Misuse, Trouble
@@ -279,6 +280,8 @@ def live_map(options: ShellOptions) -> LiveMap:
     source, program, store = options.source, options.program(), options.store
     if source.has_dumps:
         found = imported(source.dumps(), True)
+        for line in beside_lines(found.cluster):
+            print(line, file=sys.stderr)
         names = names_in(source.names) if source.names else found.cluster.all_names()
         return LiveMap(monitor_of(found.maps[0], program, store=store), names)
     source.check_map()

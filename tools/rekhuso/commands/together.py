@@ -28,18 +28,19 @@ SYSTEM = "/usr/bin/python3"
 
 @dataclass(frozen=True, **SLOTS)
 class TogetherOptions:
-    """The configuration by which a cluster is found; the files, of which the last is the script; and for how long the
-    monitor gathers meanwhile.
+    """The configuration by which a cluster is found; the files, of which the last is the script; for how long the
+    monitor gathers meanwhile; and how many groups move by a hold that does not hold them.
     """
 
     conf: str
     files: list[str]
     seconds: float
+    moves: int | None
 
 
 def options_of(arguments: Arguments) -> TogetherOptions:
     """The options of the command line."""
-    return TogetherOptions(arguments.conf, arguments.files, arguments.seconds)
+    return TogetherOptions(arguments.conf, arguments.files, arguments.seconds, arguments.moves)
 
 
 def work(options: TogetherOptions) -> None:
@@ -48,9 +49,10 @@ def work(options: TogetherOptions) -> None:
     """
     if importlib.util.find_spec("rados") is None and os.access(SYSTEM, os.X_OK):
         words = [options.conf, *options.files, "--seconds", str(options.seconds)]
+        words += [] if options.moves is None else ["--moves", str(options.moves)]
         os.execv(SYSTEM, [SYSTEM, "-B", together.__file__, *words])
     try:
-        print(given(options.conf, options.files, options.seconds))
+        print(given(options.conf, options.files, options.seconds, options.moves))
     except Stop as fault:
         raise Fault(str(fault)) from None
 

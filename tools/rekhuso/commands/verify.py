@@ -144,7 +144,7 @@ def work(options: VerifyOptions) -> None:
     if options.is_json:
         differ = [told_parts(found, group, told.get(group)) for group in found.differ]
         parts = {"groups": len(found.ups), "same": found.same, "differ": differ, "untold": found.untold}
-        put_json("verify", view.tree["epoch"], **parts, pools_beside=beside)
+        put_json("verify", view.tree["epoch"], **parts, pools_beside=beside, **view.beside().parts())
     else:
         stories = [told_lines(found, own.group, own.story, own.parts_at) for own in told.values()]
         print("\n".join(verify_lines(found, stories, beside)))

@@ -68,7 +68,7 @@ def drill(question: Question, word: str, is_json: bool) -> None:
                 f"{low} {'falls' if low == 1 else 'fall'} below min_size{unbalanced}"
             )
     if is_json:
-        put_json("whatif", value["epoch"], buckets=rows)
+        put_json("whatif", value["epoch"], buckets=rows, **question.whole.beside(None, True).parts())
 
 
 @dataclass(frozen=True, **SLOTS)
@@ -155,20 +155,22 @@ def work(options: WhatifOptions) -> None:
         return
     steps = commands_of(options, question)
     found, now = question.result(steps)
+    beside = view.beside(now)
     parts, lines = held_behind(question.cluster, steps, options.source.program) if options.is_held else ({}, [])
     if options.picture is not None:
         both = {**now.names, **view.names}
         put(options.picture, flow_picture(pictured(view, now), found["flows"], found["groups"], both))
     if options.is_json:
-        put_json("whatif", view.tree["epoch"], **found, **parts)
+        put_json("whatif", view.tree["epoch"], **found, **parts, **beside.parts())
     else:
+        lines += beside.lines()
         print("\n".join(flow_lines(found, view.names, "\n".join(question.warnings())) + lines))
 
 
 def add_to(commands: Commands) -> None:
     """The subcommand."""
     own = commands.add_parser("whatif", help="what moves if a change is made", description=__doc__)
-    own.usage = usage("[CHANGE | --each TYPE]", "[--out OSD ..]", "[--crush FILE]")
+    own.usage = usage("[CHANGE]")
     own.add_argument(
         "words",
         metavar=f"{FILES} [CHANGE]",

@@ -6,7 +6,6 @@ import argparse
 import json
 import math
 import re
-import sys
 from collections.abc import Sequence
 from dataclasses import dataclass
 from itertools import groupby
@@ -21,6 +20,7 @@ from ..cluster.shadows import SIGN
 from ..faults import Fault, Misuse, Trouble
 from ..files import text_of
 from ..program.maps import Change, Map, entries_of
+from ..running import tell
 from ..values import SLOTS
 
 # The words that each make one command of all that they name, with the reweight that they give.
@@ -223,7 +223,7 @@ def class_of(cluster: Cluster, name: str, device_class: str | None) -> str | Non
     there = sorted({device["class"] for device in cluster.crush["devices"] if "class" in device})
     if device_class is not None and device_class not in there:
         others = f"the cluster has {', '.join(there)}" if there else "the cluster has none"
-        print(f"{name}: device class {device_class} is new: {others}", file=sys.stderr)
+        tell(f"{name}: device class {device_class} is new: {others}")
     if device_class is None and len(there) > 1:
         raise Fault(f"{name}: of which device class? --class one of {', '.join(there)}")
     return device_class or (there[0] if there else None)

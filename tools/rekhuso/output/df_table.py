@@ -19,6 +19,9 @@ DISK_COLUMNS, DISKS_AT = ["SIZE", "RAW USE", "AVAIL", "%USE"], 4
 # The state of an OSD as Ceph tells it: one that is out has the reweight 0.
 STATUS = {"up": "up", "up,out": "up", "down": "down", "down,out": "down", "absent": "DNE"}
 INDENT = "    "
+# The signs of a bar and its head, and how many signs it has at least and at most.
+HAS, LACKS, BEYOND, BAR_HEAD = "█", "░", "▓", "OF SHARE"
+LEAST_BAR, MOST_BAR = 10, 30
 # Of so many buckets at most it is told that they are full.
 MOST_FULL = 4
 # The keys of disks, by those that a row has: in the totals as Ceph has them there.
@@ -182,12 +185,44 @@ def with_reach(columns: list[str], rows: list[list[str]], told: Sequence[RowPart
     return rows if is_other else [row[:at] + row[at + 1 :] for row in rows]
 
 
-def tree_lines(tree: list[JsonObject], stray: list[JsonObject], total: JsonObject) -> list[str]:
-    """The tree as a table of text, then the OSDs outside every bucket, then the totals."""
+def with_leads(columns: list[str], row: list[str], leads: int | str) -> list[str]:
+    """A row of these columns with how many groups are led, behind how many are there."""
+    at = columns.index("PGS") + 1
+    return [*row[:at], str(leads), *row[at:]]
+
+
+def bar(filled: float, greatest: float, width: int) -> str:
+    """What an OSD has of its share, where the greatest of all has so many signs: what it has, what it lacks, and what
+    it has beyond its share.
+    """
+    has, share = (round(width * own / greatest) for own in (filled, 1.0))
+    return HAS * min(has, share) + LACKS * max(0, min(share, width) - has) + BEYOND * max(0, has - share)
+
+
+def with_bars(lines: list[str], told: Sequence[JsonObject | None], room: int) -> list[str]:
+    """Lines of a table, behind those of OSDs their bars, where a line may be so long."""
+    osds = [own if own is not None and own["id"] >= 0 and own["share"] > 0 else None for own in told]
+    ratios = [None if own is None else own["ratio"] for own in osds]
+    greatest, left = max([own for own in ratios if own is not None], default=0.0), max(map(len, lines)) + 2
+    if greatest <= 0 or room - left < LEAST_BAR:
+        return lines
+    width = min(MOST_BAR, room - left)
+    bars = [BAR_HEAD, *("" if own is None else bar(own, greatest, width) for own in ratios[1:])]
+    return [f"{line.ljust(left)}{own}".rstrip() for line, own in zip(lines, bars)]
+
+
+def tree_lines(
+    tree: list[JsonObject], stray: list[JsonObject], total: JsonObject, leads: Mapping[int, int], room: int = 0
+) -> list[str]:
+    """The tree as a table of text, then the OSDs outside every bucket, then the totals; with how many groups are led
+    by each OSD, and by those below each bucket; and with bars, where a line may be so long.
+    """
     columns = [*COLUMNS[:DISKS_AT], *(DISK_COLUMNS if "total_kb" in total else []), *COLUMNS[DISKS_AT:]]
-    rows = [columns] + [cells(own, own["depth"]) for own in tree]
+    rows = [with_leads(columns, columns, "LEADS")]
+    rows += [with_leads(columns, cells(own, own["depth"]), leads[own["id"]]) for own in tree]
     if stray:
-        rows.append([""] * (len(columns) - 1) + ["outside every bucket"])
-    rows += [cells(own, 1) for own in stray]
-    rows.append(total_row(total))
-    return aligned(with_reach(columns, rows, [*tree, *stray]))
+        rows.append([""] * len(columns) + ["outside every bucket"])
+    rows += [with_leads(columns, cells(own, 1), leads[own["id"]]) for own in stray]
+    rows.append(with_leads(columns, total_row(total), sum(own for osd, own in leads.items() if osd >= 0)))
+    lines = aligned(with_reach(columns, rows, [*tree, *stray]))
+    return with_bars(lines, [None, *tree, *[None] * bool(stray), *stray, None], room)

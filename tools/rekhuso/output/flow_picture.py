@@ -104,7 +104,8 @@ def flow_picture(value: Map, moved: list[list[int]], groups: int, names: Names) 
     )
     height, told = (TOP + tall + 16, f"{move_words(groups, whole)}; left: who gives, right: who gets")
     return (
-        f'<svg xmlns="http://www.w3.org/2000/svg" width="{WIDTH}" height="{height}" viewBox="0 0 {WIDTH} {height}">'
+        f'<svg xmlns="http://www.w3.org/2000/svg" role="img" aria-label="{told}" width="{WIDTH}" height="{height}" '
+        f'viewBox="0 0 {WIDTH} {height}">'
         f"<style>{FLOW_STYLE}</style>"
         f'<rect width="100%" height="100%" class="g"/><text x="{WIDTH // 2}" y="18" text-anchor="middle" class="t">'
         f'{told}</text>{"".join(parts)}</svg>\n'

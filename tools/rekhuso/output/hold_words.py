@@ -7,7 +7,8 @@ from ..plans.guards import ASKS_TO_STAY, AT_COMMANDS, AT_FIRST, AT_FLAG, AT_LAST
 from ..plans.hold import Hold
 from ..words import counted, some
 from .flow_words import move_words
-from .hold_heads import HoldHead, with_end
+from .hold_heads import HoldHead
+from .origins import with_end
 from .plan_scripts import client_words, comments
 
 # How many groups that are not held are told by their names, for each reason.
@@ -52,7 +53,10 @@ def instead_lines(hold: Hold) -> list[str]:
 def idle_lines(hold: Hold, tried: list[str]) -> list[str]:
     """That nothing is held, and what would be: what was tried, if that is known."""
     lines = hold_lines(hold)
-    first = f"nothing is held: of {counted(len(hold.moving()), 'group')} that would move none can be"
+    moving = counted(len(hold.moving()), "group")
+    if hold.is_beside:
+        return [f"nothing is held: of {moving} that would move none is chosen"]
+    first = f"nothing is held: of {moving} that would move none can be"
     instead = instead_lines(hold)
     return [first, *(tried or instead), *(line for line in lines if line not in instead)]
 
@@ -81,10 +85,13 @@ def hold_lines(hold: Hold) -> list[str]:
     return lines + instead_lines(hold) + losing_lines(hold.unrest, told["losing"], MOST_LEFT)
 
 
-def with_keeping(commands: list[str], part: int, parts: int, change: list[str]) -> list[str]:
-    """The commands of a part between what keeps data where it is and what ends that; the change comes first."""
-    begin = [*BEGIN, *([ASKS_TO_STAY] if parts > 1 else []), *change] if part == 1 else [*TRAPS]
-    end = [AT_LAST, STAYS if parts == 1 else STAYS_BEHIND_PARTS, END] if part == parts else []
+def with_keeping(part: int, parts: list[list[str]], change: list[str], ends: list[str]) -> list[str]:
+    """The commands of a part between what keeps data where it is and what ends that; the change comes first. What is
+    asked in the end stands before that.
+    """
+    commands, count = parts[part - 1], len(parts)
+    begin = [*BEGIN, *([ASKS_TO_STAY] if count > 1 else []), *change] if part == 1 else [*TRAPS]
+    end = [*ends, AT_LAST, STAYS if count == 1 else STAYS_BEHIND_PARTS, END] if part == count else []
     return [*begin, AT_COMMANDS, *commands, *end]
 
 
@@ -98,11 +105,15 @@ def hold_script(hold: Hold, head: HoldHead, is_made: bool, part: int, parts: lis
     if is_undo:
         title = f"The way back from holding groups over epoch {hold.epoch}{name}, by {count}"
     else:
-        title = f"Holds {told['held']} of {told['groups']} groups that move, over epoch {hold.epoch}{name}, by {count}"
+        of = head.origin.beside.of_read
+        title = (
+            f"Holds {told['held']} of {told['groups']} groups{of} that move, over epoch {hold.epoch}{name}, by {count}"
+        )
     order = BACK if is_undo else MADE if is_made else TO_COME
     needs = [NEEDS_CHANGE] if part == 1 and not is_undo and not is_made else []
-    guards = head.guards(part).lines(lines)
-    lines = with_keeping(lines, part, len(parts), [] if is_made and not is_undo else [CHANGE])
+    guards = head.guards(part, parts[part - 2]).lines(lines)
+    ends = head.ends([line for own in parts for line in own])
+    lines = with_keeping(part, parts, [] if is_made and not is_undo else [CHANGE], ends)
     notes = [
         *client_words(hold.client),
         *(order if part == 1 else [f"order:  part {part - 1} is run before"]),

@@ -39,11 +39,12 @@ def sample_line(name: str, labels: Labels, value: float) -> str:
 
 
 class Metrics:
-    """Samples by the names of their metrics, in the order of `HELP`."""
+    """Samples by the names of their metrics, in the order in which these are told."""
 
-    def __init__(self) -> None:
-        """Has none yet."""
-        self.samples: dict[str, list[str]] = {name: [] for name in HELP}
+    def __init__(self, told: Mapping[str, str]) -> None:
+        """Has none yet; of each metric is told what it is."""
+        self.told = told
+        self.samples: dict[str, list[str]] = {name: [] for name in told}
 
     def add(self, name: str, labels: Labels, value: float) -> None:
         """One more sample."""
@@ -60,7 +61,9 @@ class Metrics:
         """All of them, each metric with what it is."""
         found = []
         for name, lines in self.samples.items():
-            found += [f"# HELP rekhuso_{name} {HELP[name]}", f"# TYPE rekhuso_{name} gauge", *lines] if lines else []
+            found += (
+                [f"# HELP rekhuso_{name} {self.told[name]}", f"# TYPE rekhuso_{name} gauge", *lines] if lines else []
+            )
         return "\n".join(found) + "\n"
 
 
@@ -79,7 +82,7 @@ def add_pool(found: Metrics, name: str, counts: Mapping[int, int], shares: Mappi
 
 def metrics(shares: Shares, names: Names, osds: Iterable[int]) -> str:
     """The text of all metrics over some OSDs, those of the tree and beside it."""
-    found = Metrics()
+    found = Metrics(HELP)
     for osd in sorted(osds):
         share = shares.wanted.get(osd, 0.0)
         found.add_osd("osd", {"osd": str(osd)}, shares.counts.get(osd, 0), share)

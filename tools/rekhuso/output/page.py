@@ -3,7 +3,7 @@
 from __future__ import annotations
 
 import json
-from collections.abc import Mapping, Sequence
+from collections.abc import Mapping
 from contextlib import ExitStack
 from dataclasses import dataclass
 
@@ -22,42 +22,26 @@ from ..program.questions import up_sets
 from ..values import SLOTS
 from ..words import counted, escaped
 from .df_table import DISK_COLUMNS, cells, full_words, node, nodes, summary, total_row, with_reach
-from .flow_picture import flow_picture
+from .flow_picture import flow_picture, holder_by_osd
 from .next_page import NEXT_COLUMNS, next_head, next_rows
-from .osd_picture import osd_picture
+from .osd_picture import osd_picture, plan_picture
+from .page_tables import SORT_SCRIPT, TABLE_STYLE, table, wide
 from .plan_words import page_words
 
-# The columns of `df`, those first that a narrow screen shows.
+# The columns of `df` for OSDs, those first that a narrow screen shows; and those of them that buckets have.
 PAGE_COLUMNS = ["PGS", "SHARE", "REACH", "DEVIATION", "RATIO", "STATUS", "WEIGHT", "REWEIGHT", "CLASS"]
+OF_OSDS = {"DEVIATION", "STATUS", "REWEIGHT", "CLASS"}
 PAGE_STYLE = """:root{color-scheme:light dark}body{font:15px/1.45 system-ui,sans-serif;margin:1rem auto;max-width:86rem;
-padding:0 1rem}
-table{border-collapse:collapse;width:100%;display:block;overflow-x:auto}
-td,th{padding:.2rem .6rem;text-align:right;border-bottom:1px solid #8884;white-space:nowrap}
-.sorts th{cursor:pointer}
-td:first-child,th:first-child{text-align:left;white-space:pre;position:sticky;left:0;background:Canvas}
-progress{width:100%}
-pre,figure{overflow-x:auto;margin:0}h2{margin-top:2rem}figure svg{width:100%;height:auto;display:block}
+padding:0 1rem}nav a{margin-right:1rem}progress{width:100%}
+pre,figure{margin:0}h2{margin-top:2rem}figure svg{width:100%;height:auto;display:block}
 .pair,.sides{display:grid;grid-template-columns:minmax(0,1fr);gap:1rem;align-items:start}
-.tree{max-height:48rem;overflow-y:auto}
+.tree{max-height:48rem;overflow:auto}
 @media (max-width:40rem){body{padding:0 .4rem;font-size:12px}h1{font-size:1.5em}td,th{padding:.2rem}
 th{font-size:10px}}
-@media (min-width:75rem){.pair{grid-template-columns:minmax(24rem,1fr) fit-content(62%)}
+@media (min-width:75rem){.pair{grid-template-columns:minmax(16rem,1fr) fit-content(75%)}
 .sides{grid-template-columns:minmax(0,1fr) minmax(0,1fr)}}"""
 # How many times as wide as it is drawn a picture gets at most; at least, one of two maps and one of bands.
 WIDER, BESIDE, OF_BANDS = 2.2, 0.8, 0.6
-SCRIPT = """document.querySelectorAll('.sorts th').forEach(h=>h.addEventListener('click',()=>{
-const t=h.closest('table'),b=t.tBodies[0],
-k=[...h.parentNode.children].indexOf(h),d=h.dataset.d=h.dataset.d==='1'?'-1':'1',
-v=r=>r.children[k].textContent,n=x=>parseFloat(x.replace('osd.',''));
-[...b.rows].sort((p,q)=>d*(isNaN(n(v(p)))||isNaN(n(v(q)))?v(p).localeCompare(v(q)):n(v(p))-n(v(q))))
-.forEach(r=>b.append(r))}))"""
-
-
-def table(columns: list[str], rows: Sequence[Sequence[object]], kind: str = "sorts") -> str:
-    """A table, which a click on a column sorts unless it is of another kind."""
-    head = "".join(f"<th>{escaped(column)}</th>" for column in columns)
-    body = "".join("<tr>" + "".join(f"<td>{escaped(str(entry))}</td>" for entry in row) + "</tr>" for row in rows)
-    return f'<table class="{kind}"><thead><tr>{head}</tr></thead><tbody>{body}</tbody></table>'
 
 
 def page_row(row: list[str]) -> list[str]:
@@ -71,24 +55,27 @@ def page_columns(disks: Mapping[int, Disk]) -> list[str]:
     return [*PAGE_COLUMNS[:-1], *(DISK_COLUMNS if disks else []), PAGE_COLUMNS[-1]]
 
 
-def tree_rows(shares: Shares, names: Names, disks: Mapping[int, Disk]) -> list[list[str]]:
-    """The tree with its sums as rows, the OSDs outside every bucket, and the totals, as `df` has them."""
-    tree, stray = nodes(shares, names, disks), [node(shares, row, names, disks) for row in shares.stray()]
-    rows = [[*cells(own, 0)[:-1], "  " * own["depth"] + own["name"]] for own in tree]
-    rows += [[*cells(own, 0)[:-1], f"{own['name']} (outside every bucket)"] for own in stray]
-    return [page_row(row) for row in [*rows, total_row(summary(shares, disks))]]
+def tree_table(shares: Shares, names: Names, disks: Mapping[int, Disk]) -> str:
+    """The buckets with their sums, and the totals, as `df` has them. The OSDs stand in a table of their own."""
+    tree = [own for own in nodes(shares, names, disks) if own["id"] < 0]
+    rows = [page_row([*cells(own, 0)[:-1], "  " * own["depth"] + own["name"]]) for own in tree]
+    rows.append(page_row(total_row(summary(shares, disks))))
+    columns = ["NAME", *page_columns(disks)]
+    head, *rest = with_reach(columns, [columns, *rows], tree)
+    kept = [at for at, column in enumerate(head) if column not in OF_OSDS]
+    told = "Buckets with what their OSDs come to"
+    return table(told, [head[at] for at in kept], [[row[at] for at in kept] for row in rest], "sums")
 
 
-def osd_rows(shares: Shares, names: Names, disks: Mapping[int, Disk]) -> list[list[str]]:
-    """Each OSD as a row, by its number."""
+def osd_table(shares: Shares, names: Names, disks: Mapping[int, Disk]) -> str:
+    """Each OSD as a row, by its number, with the bucket that holds it."""
     found = [node(shares, shares.osd_row(osd), names, disks) for osd in sorted(shares.osds)]
-    return [page_row([*cells(own, 0)[:-1], own["name"]]) for own in found]
-
-
-def reach_table(columns: list[str], rows: list[list[str]], shares: Shares, kind: str) -> str:
-    """A table of OSDs, with what they can reach where that is not their shares."""
+    rows, holders = [page_row([*cells(own, 0)[:-1], own["name"]]) for own in found], holder_by_osd(shares.value)
+    columns = ["OSD", *page_columns(disks)]
     head, *rest = with_reach(columns, [columns, *rows], [shares.osd_row(osd) for osd in shares.osds])
-    return table(head, rest, kind)
+    hosts = [named(names, "buckets", holders[own["id"]]) if own["id"] in holders else "none" for own in found]
+    told = "OSDs, each with its groups beside its share"
+    return table(told, [*head, "IN"], [[*row, host] for row, host in zip(rest, hosts)])
 
 
 def pool_rows(shares: Shares, names: Names) -> list[list[object]]:
@@ -129,13 +116,13 @@ def exception_rows(value: Map, program: Program) -> list[list[str]]:
     ]
 
 
-def figure(picture: str, least: float = 1) -> str:
-    """A picture that fills its column, at least so many times as wide as it is drawn: of one that is wider than the
-    column, this shows a part at a time.
+def figure(picture: str, told: str, least: float = 1) -> str:
+    """A picture with what it shows, which fills its column, at least so many times as wide as it is drawn: of one that
+    is wider than the column, this shows a part at a time.
     """
-    wide = int(picture.partition('width="')[2].partition('"')[0])
-    style = f'style="min-width:{round(wide * least)}px;max-width:{round(wide * WIDER)}px"'
-    return f"<figure>{picture.replace('<svg ', f'<svg {style} ', 1)}</figure>"
+    width = int(picture.partition(' width="')[2].partition('"')[0])
+    style = f'style="min-width:{round(width * least)}px;max-width:{round(width * WIDER)}px"'
+    return f"<figure>{wide(picture.replace('<svg ', f'<svg {style} ', 1), told)}</figure>"
 
 
 def plan_pictures(whole: ClusterView, sets: dict[str, Up], steps: list[PlanStep]) -> str:
@@ -143,9 +130,10 @@ def plan_pictures(whole: ClusterView, sets: dict[str, Up], steps: list[PlanStep]
     after = {**sets, **{step.group: sets[step.group]._replace(places=step.now) for step in steps}}
     moved = flows(other_sets(sets, after), erasure_pools(whole.pools))
     pairs = [[*pair, count] for pair, count in sorted(moved.items())]
-    sides = osd_picture([whole.shares(sets), whole.shares(after)], whole.names, ["before", "after"])
+    sides = plan_picture(whole, sets, steps)
     between = flow_picture(whole.tree, pairs, sum(map(PlanStep.is_moving, steps)), whole.names)
-    return f'<div class="sides">{figure(sides, BESIDE)}{figure(between, OF_BANDS)}</div>'
+    told = "Groups of each OSD before the plan and after it", "Places that hosts give to one another by the plan"
+    return f'<div class="sides">{figure(sides, told[0], BESIDE)}{figure(between, told[1], OF_BANDS)}</div>'
 
 
 def plan_part(whole: ClusterView, sets: dict[str, Up], program: Program) -> str:
@@ -162,15 +150,15 @@ def plan_part(whole: ClusterView, sets: dict[str, Up], program: Program) -> str:
     told = "".join(f"<p>{escaped(line)}</p>" for line in said)
     if not plan:
         return f"{told}<p>Nothing is left to move.</p>"
-    return f"{told}{plan_pictures(whole, sets, outcome.steps)}<pre>{escaped(chr(10).join(plan))}</pre>"
+    lines = wide(f"<pre>{escaped(chr(10).join(plan))}</pre>", "The commands of the plan")
+    return f"{told}{plan_pictures(whole, sets, outcome.steps)}{lines}"
 
 
-def next_part(found: NextStep | None, names: Names) -> list[str]:
-    """How far a plan is that is carried out, as the page has it; nothing where none is."""
-    if found is None:
-        return []
+def next_part(found: NextStep, names: Names) -> str:
+    """How far a plan is that is carried out, as the page has it."""
     rows = next_rows(found, names)
-    return ["<h2>The plan that is carried out</h2>", next_head(found), table(NEXT_COLUMNS, rows) if rows else ""]
+    told = "OSDs to which places of the plan still come, or from which they still go"
+    return next_head(found) + (table(told, NEXT_COLUMNS, rows) if rows else "")
 
 
 def heading(value: Map, shares: Shares, title: str) -> str:
@@ -193,31 +181,44 @@ class PageParts:
     carried: NextStep | None
 
 
+def exceptions_part(whole: ClusterView, program: Program) -> str:
+    """The groups with exceptions as the page has them."""
+    rows = [row for of in whole.maps for row in exception_rows(of, program)]
+    told, columns = "Groups with exceptions, and their sets without and with these", ["GROUP", "WITHOUT", "WITH", "IT"]
+    return table(told, columns, rows, "sorts long") if rows else "<p>None.</p>"
+
+
+def pools_part(shares: Shares, names: Names) -> str:
+    """The pools as the page has them, and why some cannot be even."""
+    columns = ["POOL", "PGS", "SIZE", "RULE", "PLACES", "SHORT"]
+    why = "".join(f"<p>{escaped(line)}</p>" for line in full_lines(shares, names))
+    return table("Pools, with the groups that are short of places", columns, pool_rows(shares, names)) + why
+
+
+def sections(parts: Mapping[str, str]) -> str:
+    """The parts of the page by their headings, behind links to each."""
+    keys = {title: f"part-{number}" for number, title in enumerate(parts, 1)}
+    links = "".join(f'<a href="#{key}">{escaped(title)}</a>' for title, key in keys.items())
+    texts = (
+        f'<section aria-labelledby="{keys[title]}"><h2 id="{keys[title]}">{escaped(title)}</h2>{inner}</section>'
+        for title, inner in parts.items()
+    )
+    return f'<nav aria-label="Parts of the page">{links}</nav></header><main>{"".join(texts)}</main>'
+
+
 def page(whole: ClusterView, sets: dict[str, Up], program: Program, own: PageParts) -> str:
     """The page of a lawful map or of a cluster as HTML."""
-    title, disks, columns = own.title, own.disks, page_columns(own.disks)
-    names, value, shares = whole.names, whole.tree, whole.shares(sets)
-    excepted = [row for of in whole.maps for row in exception_rows(of, program)]
-    parts = [
-        heading(value, shares, title),
-        *next_part(own.carried, names),
-        '<h2>Where the groups are</h2><div class="pair">',
-        figure(osd_picture([shares], names, [""], disks)),
-        '<div class="tree">',
-        reach_table(["NAME", *columns], tree_rows(shares, names, disks), shares, "sums"),
-        "</div></div><h2>OSDs</h2>",
-        reach_table(["OSD", *columns], osd_rows(shares, names, disks), shares, "sorts"),
-        "<h2>Pools</h2>",
-        table(["POOL", "PGS", "SIZE", "RULE", "PLACES", "SHORT"], pool_rows(shares, names)),
-        "".join(f"<p>{escaped(line)}</p>" for line in full_lines(shares, names)),
-        "<h2>Exceptions</h2>",
-        table(["GROUP", "WITHOUT", "WITH", ""], excepted) if excepted else "<p>None.</p>",
-        "<h2>The plan</h2>",
-        plan_part(whole, sets, program),
-    ]
+    title, disks, names, shares = own.title, own.disks, whole.names, whole.shares(sets)
+    picture = figure(osd_picture([shares], names, [""], disks), "Groups of each OSD, by hosts")
+    parts = {} if own.carried is None else {"The plan that is carried out": next_part(own.carried, names)}
+    parts["Where the groups are"] = f'<div class="pair">{picture}{tree_table(shares, names, disks)}</div>'
+    parts["OSDs"] = osd_table(shares, names, disks)
+    parts["Pools"] = pools_part(shares, names)
+    parts["Exceptions"] = exceptions_part(whole, program)
+    parts["The plan"] = plan_part(whole, sets, program)
     return (
         '<!doctype html><html lang="en"><meta charset="utf-8"><meta name="viewport" '
         'content="width=device-width,initial-scale=1">'
-        f"<title>{escaped(title)}</title><style>{PAGE_STYLE}</style>{''.join(parts)}"
-        f"<script>{SCRIPT}</script></html>\n"
+        f"<title>{escaped(title)}</title><style>{PAGE_STYLE}{TABLE_STYLE}</style><header>"
+        f"{heading(whole.tree, shares, title)}{sections(parts)}<script>{SORT_SCRIPT}</script></html>\n"
     )

@@ -93,7 +93,7 @@ def movement_tables(weights: PlaceBytes, steps: list[PlanStep], names: Names) ->
 
 
 @dataclass(frozen=True, **SLOTS)
-class Script:
+class PlanScript:
     """A script: its first line, what is told above its commands, what its steps weigh, names, and where it comes
     from.
     """
@@ -109,9 +109,11 @@ class Script:
         lines = [line for step in steps for line in step.commands]
         moving = moving_words(self.weights.moving(steps))
         title = f"{self.title}: {moving}, by {counted(len(lines), 'command')}; a table stands at the end"
-        above = comments([title, *self.origin.notes(), *self.notes])
+        above = comments([*self.origin.notes(), *self.notes])
         below = comments(movement_tables(self.weights, steps, self.names))
-        return "\n".join([*above, "set -e", *self.origin.guards.lines(lines), *lines, *below]) + "\n"
+        head = [*comments([title]), *self.origin.head_lines(len(lines)), *above]
+        own = "\n".join([*head, "set -e", *self.origin.guards.lines(lines), *lines, *below]) + "\n"
+        return self.origin.closed(own)
 
 
 def part_file(word: str, number: int, count: int) -> str:

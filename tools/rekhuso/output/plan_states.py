@@ -6,7 +6,7 @@ from ..plans.plan import Outcome
 from ..words import counted
 from .refusal_words import why_words
 
-PLANNED, EVEN, BARRED = "planned", "nothing to do", "nothing can be planned"
+PLANNED, NOTHING_TO_DO, BARRED = "planned", "nothing to do", "nothing can be planned"
 
 
 def reasons_of(outcome: Outcome) -> list[str]:
@@ -31,7 +31,7 @@ def state_of(outcome: Outcome) -> str:
         return PLANNED
     is_kept = bool(outcome.taken_out or outcome.stopped or any(own["left_out"] for own in outcome.pools))
     are_refused = bool(outcome.pools) and all(own["refused"] for own in outcome.pools)
-    return BARRED if is_kept or are_refused else EVEN
+    return BARRED if is_kept or are_refused else NOTHING_TO_DO
 
 
 def state_line(outcome: Outcome) -> str:

@@ -5,9 +5,12 @@ from __future__ import annotations
 from fractions import Fraction
 
 from ..cluster.names import Names, named
+from ..plans.all_pools import AllPools
+from ..plans.best_plan import TriedPlan
 from ..plans.json_forms import MovingParts, PlanParts, StayParts
 from ..plans.plan import Outcome
 from ..plans.rounds import MOST_MOVES
+from ..plans.shared_by import SharedBy
 from ..words import counted, size_words, some
 from .fill_words import fill_words, osd_words, room_words, spread_words, use_words
 from .refusal_words import refusal_words
@@ -18,6 +21,7 @@ MOST_STAYS = 5
 MANY_POOLS, TOLD_POOLS = 20, 10
 # For how many hundreds of places it is told what they gain.
 MOST_ROWS = 4
+BY = {SharedBy.REACH: "by reach", SharedBy.WEIGHT: "by weight", SharedBy.JOINT: "by all pools"}
 KEPT_BY = {
     "not planned": "none of its groups is moved",
     "failure domains": "all emptier OSDs stand in failure domains that have copies already",
@@ -46,6 +50,16 @@ def length_words(parts: PlanParts, deviation: Fraction | None) -> str:
     if wanted is None:
         return f"; {whole}, which does not come within {most} of each share"
     return f"; {counted(wanted, 'move')} {'comes' if wanted == 1 else 'come'} within {most} of each share, {whole}"
+
+
+def all_pools_words(found: AllPools | None, names: Names) -> list[str]:
+    """How even the cluster is by all pools that can be placed, where only some were read."""
+    if found is None:
+        return []
+    before, after = fill_words(found.before, names), fill_words(found.after, names)
+    line = f"cluster by groups of all {len(found.pools)} pools that can be placed: before {before}; after {after}"
+    worse = "it gets less even by this plan: --of-pool in place of --pools plans beside what OSDs carry of the others"
+    return [line, *([f"cluster by groups of all pools: {worse}"] if found.is_worse else [])]
 
 
 def pool_plan_words(parts: PlanParts, deviation: Fraction | None) -> str:
@@ -90,6 +104,41 @@ def data_words(outcome: Outcome, names: Names) -> list[str]:
     return found
 
 
+def way_words(outcome: Outcome) -> list[str]:
+    """By which shares a plan goes, where several ways were tried, and how much less pools may take on the way."""
+    found = list[str]()
+    if outcome.chosen is not None:
+        told = "; ".join(f"{goals_words(way)} {worth_of_way(way)}" for way in outcome.chosen.ways)
+        found.append(f"shares: the plan goes {goals_words(outcome.chosen.best)}; the fullest to its weight: {told}")
+    if outcome.falls is not None:
+        count, part = outcome.falls
+        found.append(
+            f"room on the way: MAX AVAIL of a pool is {100 * part:.1f} % less after {counted(count, 'command')}"
+        )
+    return found
+
+
+def goals_words(way: TriedPlan) -> str:
+    """By which shares a plan goes."""
+    return ", then ".join(BY[goal] for goal in way.goals)
+
+
+def worth_of_way(way: TriedPlan) -> str:
+    """What a plan that was tried is worth."""
+    by_bytes = "" if way.bytes is None else f"{way.bytes:.2f} by bytes, "
+    less = "" if way.keeps_room else ", and less room than before"
+    return f"{by_bytes}{way.groups:.2f} by groups, {counted(way.places, 'place')}{less}"
+
+
+def best_words(outcome: Outcome) -> list[str]:
+    """How full any plan leaves the fullest OSD; nothing where that is its share, which says nothing."""
+    least = None if outcome.chosen is None else outcome.chosen.least
+    if outcome.least <= 0 or outcome.least < 1.005 and least is None:
+        return []
+    to_weight = "" if least is None else f", and one at {least:.2f} of its share by weight"
+    return [f"at best: any plan leaves the fullest at {outcome.least:.2f} of its share{to_weight}, or fuller"]
+
+
 def cluster_words(outcome: Outcome, names: Names) -> list[str]:
     """How even the cluster is before and after its plans, a line each by groups, by bytes, and for the pool with most
     data.
@@ -102,15 +151,14 @@ def cluster_words(outcome: Outcome, names: Names) -> list[str]:
     if outcome.largest is not None and before["room"] is not None and after["room"] is not None:
         name = named(names, "pools", outcome.largest)
         found.append(f"room of {name}, the pool with most data: {room_words(before['room'], after['room'])}")
-    found += data_words(outcome, names)
+    found += data_words(outcome, names) + way_words(outcome)
     if outcome.taken_out:
         count = len(outcome.taken_out)
         groups = "1 group is left where it is" if count == 1 else f"{count} groups are left where they are"
         found.append(f"as a whole: {groups}, or it would get less even, or an OSD fuller than the fullest")
     if not outcome.steps:
         found.append("as a whole: nothing to gain")
-    if outcome.least > 0:
-        found.append(f"at best: any plan leaves the fullest at {outcome.least:.2f} of its share, or fuller")
+    found += best_words(outcome)
     if outcome.rest:
         found.append(f"as a whole: a plan over this one begins with {counted(outcome.rest, 'command')}")
     return [f"cluster {line}" for line in found]

@@ -10,7 +10,7 @@ from ..plans.steps import PlanStep
 from ..words import counted, some
 from .flow_words import move_words
 from .origins import Origin
-from .plan_scripts import Script, WATCH, balancer_words, client_words, part_file
+from .plan_scripts import PlanScript, WATCH, balancer_words, client_words, part_file
 
 BEFORE_WORD = "prepare"
 NEXT = [
@@ -51,5 +51,6 @@ def prepare_scripts(found: Prepared, names: Names, is_undo: bool, origin: Origin
         notes = [*balancer_words(None), *client_words(found.hold.client), *WATCH, *(order if number > 1 else []), *NEXT]
         title = "The way back from what was moved before" if is_undo else "Moves before"
         title += f" a change, over epoch {found.epoch}, part {number} of {count}"
-        texts.append(Script(title, notes, weights, names, origin).text(steps))
+        own = origin.turned("undo of a preparation" if is_undo else "preparation", number, count)
+        texts.append(PlanScript(title, notes, weights, names, own).text(steps))
     return texts

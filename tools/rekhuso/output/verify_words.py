@@ -33,6 +33,13 @@ def verify_lines(found: Verified, told: list[list[str]], beside: list[str]) -> l
     if later:
         told_at = f"told at a later epoch than {found.epoch}, that of the OSD dump: dump all three again"
         lines.append(f"{len(later):,} of them {'was' if len(later) == 1 else 'were'} {told_at}")
+    earlier = found.earlier()
+    if earlier:
+        told_at = (
+            f"told at an earlier epoch, and neither their pools nor their OSDs have changed since by {found.epoch}"
+        )
+        lines.append(f"{len(earlier):,} of them {'was' if len(earlier) == 1 else 'were'} {told_at}")
+        lines.append("if pairs, reweights or the CRUSH map have changed just now, dump all three again")
     if found.untold:
         lines.append(f"not told yet: {some(found.untold, MOST_NAMED)}")
     return lines + ([f"not looked at, as they stay out (import --check says why): {some(beside)}"] if beside else [])

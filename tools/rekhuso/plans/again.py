@@ -32,7 +32,7 @@ def excepted(value: Exceptions, change: Change) -> Exceptions:
 
 def bring(live: Live, value: Map) -> None:
     """Brings a session to a map that has other exceptions, or other OSDs that are down."""
-    now, change = live.session.dump(), dict[str, object]()
+    now, change = live.session.dump(), dict[str, Any]()
     for word, key in KEYS:
         was, wanted = dict(entries_of(now, key)), dict(entries_of(value, key))
         change[f"old_{word}"] = [group for group in was if group not in wanted]
@@ -58,9 +58,7 @@ def after(live: Live, steps: list[PlanStep]) -> Live:
     moved = [step for step in own if step.was != step.now]
     ups = {**live.before.ups, **{step.group: up_at(step.now) for step in moved}}
     before = live.before.after(value, ups, {step.pool for step in moved})
-    found = Live(value, excepted(live.kept, change), live.names, live.judge, live.session, before)
-    found.is_by_weight, found.alone = live.is_by_weight, live.alone
-    return found
+    return live.after(value, excepted(live.kept, change), before)
 
 
 def moved_data(data: Data, sizes: Mapping[str, float] | None, steps: list[PlanStep]) -> Data:

@@ -1,7 +1,8 @@
 """What OSDs hold in bytes, and what each is to hold.
 
-Where nobody tells the disks, an OSD is to hold its shares of all pools, by weight and reweight. Where they are known,
-what is left on OSDs is to go by their weights, as MAX AVAIL counts it, among those that have pools in common.
+Where nobody tells the disks, an OSD is to hold its shares of all pools. Where they are known, what is left on OSDs is
+to go by their weights, as MAX AVAIL counts it, among those that have pools in common; but for what the shares by which
+a plan goes are above those by weight.
 """
 
 from __future__ import annotations
@@ -26,6 +27,14 @@ def held_in(sizes: list[int], ups: Iterable[Up]) -> dict[int, int]:
             if osd is not None:
                 found[osd] = found.get(osd, 0) + size
     return found
+
+
+def lay_shares(found: dict[int, float], held: Mapping[int, int], trees: Iterable[Mapping[int, int]]) -> None:
+    """Puts what OSDs hold of a pool to the shares of others, tree by tree as these weigh."""
+    for tree in trees:
+        whole, total = sum(size for osd, size in held.items() if osd in tree), sum(tree.values())
+        for osd, weight in tree.items():
+            found[osd] = found.get(osd, 0.0) + whole * weight / total
 
 
 def grain(disk: Disk) -> int:
@@ -56,12 +65,15 @@ class ByteAims:
     bytes; and where the disks are known what they have beside the pools, in parts of a byte.
     """
 
-    def __init__(self, lives: list[Live], data: Data) -> None:
-        """Takes the maps of a cluster, and what its pools hold."""
+    def __init__(self, lives: list[Live], data: Data, is_by_weight: bool = False) -> None:
+        """Takes the maps of a cluster, what its pools hold, and whether OSDs are to hold what they weigh for, whatever
+        plans go by.
+        """
         self.sizes: dict[int, list[int]] = {}
         self.groups: dict[str, float] = {}
         held: dict[int, int] = {}
         want: dict[int, float] = {}
+        by_weight: dict[int, float] = {}
         trees: list[dict[int, int]] = []
         for live in lives:
             for number, pool in live.pools.items():
@@ -71,10 +83,8 @@ class ByteAims:
                 for osd, size in own.items():
                     held[osd] = held.get(osd, 0) + size
                 trees += live.before.trees_for(pool)
-                for tree in live.goal_trees(pool):
-                    whole, total = sum(size for osd, size in own.items() if osd in tree), sum(tree.values())
-                    for osd, weight in tree.items():
-                        want[osd] = want.get(osd, 0.0) + whole * weight / total
+                lay_shares(by_weight, own, live.before.trees_for(pool))
+                lay_shares(want, own, live.before.trees_for(pool) if is_by_weight else live.goal_trees(pool))
         numbers = [number for live in lives for number in live.pools]
         self.is_whole = data.is_whole(numbers)
         self.disks = data.disks if self.is_whole else {}
@@ -84,17 +94,18 @@ class ByteAims:
         if self.disks:
             weights = {osd: own for live in lives for osd, own in live.before.items.items() if osd >= 0}
             self.has.update({osd: (held.get(osd, 0) + base) / BYTE_PARTS for osd, base in self.base.items()})
-            self.want = self.by_room(joined(trees), weights)
+            more = {osd: (own - by_weight.get(osd, 0.0)) / BYTE_PARTS for osd, own in want.items()}
+            self.want = self.by_room(joined(trees), weights, more)
 
-    def by_room(self, joint: list[set[int]], weights: Mapping[int, int]) -> dict[int, float]:
-        """What OSDs are to have so that what is left on them goes by their weights."""
+    def by_room(self, joint: list[set[int]], weights: Mapping[int, int], more: Mapping[int, float]) -> dict[int, float]:
+        """What OSDs are to have so that what is left on them goes by their weights, but for so much more."""
         found: dict[int, float] = {}
         for osds in joint:
             left = sum(FULL * self.disks[osd].size - self.has[osd] for osd in osds)
             rate = left / sum(weights[osd] for osd in osds)
             for osd in osds:
                 size = self.disks[osd].size
-                found[osd] = max(LEAST * size, FULL * size - rate * weights[osd])
+                found[osd] = max(LEAST * size, FULL * size - rate * weights[osd] + more.get(osd, 0.0))
         return found
 
     def spread(self) -> Spread:

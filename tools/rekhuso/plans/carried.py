@@ -7,6 +7,7 @@ given where the cluster has it, or what a later part gives.
 
 from __future__ import annotations
 
+import os
 import pathlib
 import re
 from collections.abc import Mapping, Sequence
@@ -16,18 +17,24 @@ from typing import Union
 from ..cluster.cluster import Cluster
 from ..cluster.effects import weight_units
 from ..faults import Fault
-from ..files import json_of, text_of
+from ..files import InMemory, json_of, text_of
 from ..program.maps import entries_of
+from ..together import HEAD
 from ..values import SLOTS
 from .drain_stages import weights_in
 from .guards import TELLING, is_guard
+from .heads import COMMANDS_MAKE_IT, NOT_TOLD
 from .printed_commands import FORM, PrintedCommand, command_in
+from .printed_reads import NAMING
 
 # The commands of a stage beside those on exceptions.
 WEIGHT = re.compile(r"ceph osd crush reweight osd\.([0-9]+) ([0-9.]+)")
 OUT = re.compile(r"ceph osd out((?: osd\.[0-9]+)+)")
+REWEIGHT = re.compile(r"ceph osd reweight ([0-9]+) ([0-9.]+)")
 AROUND = ("ceph balancer off", "ceph osd set norebalance", "ceph osd unset norebalance")
 PASSED = ("", "set -e", *TELLING)
+# Where a script without a head tells of which cluster it is: above its commands, or by what it asks.
+TOLD_FSID = re.compile(r"^(?:# .*\bfsid ([0-9A-Za-z-]{36})$|has '\^fsid ([0-9A-Za-z-]+)\$' )", re.M)
 # What a setting is of: a group's explicit set or its pairs, or an OSD's weight or state.
 Key = tuple[str, Union[str, int]]
 # The names of scripts in a folder, but for those that take a plan back; and the commands whose JSON is carried out.
@@ -40,9 +47,19 @@ FILES, COMMANDS = re.compile(r"(plan|hold|prepare|release|drain)-([0-9]+|end)\.s
 
 
 @dataclass(frozen=True, **SLOTS)
+class Own:
+    """What a part says of its cluster, as far as it is known: its fsid, and the sum of the CRUSH map that it
+    has once the part is given.
+    """
+
+    fsid: str | None
+    crush: str | None
+
+
+@dataclass(frozen=True, **SLOTS)
 class PlanPart:
     """A part of a plan: its name, its text, its commands on exceptions, the weights that it gives OSDs, those that it
-    takes out, and whether it is a stage.
+    takes out, the reweights that it gives back, whether it is a stage, and what it says of the cluster.
     """
 
     name: str
@@ -50,12 +67,20 @@ class PlanPart:
     commands: list[PrintedCommand]
     weights: dict[int, int]
     out: list[int]
+    reweights: dict[int, int]
     is_stage: bool
+    own: Own
+
+    @property
+    def guards(self) -> list[str]:
+        """The guards of its script."""
+        return [line for line in self.text.splitlines() if is_guard(line)]
 
     def settings(self) -> dict[Key, object]:
         """What it gives groups and OSDs."""
         found: dict[Key, object] = {("weight", osd): weight for osd, weight in self.weights.items()}
         found.update({("out", osd): True for osd in self.out})
+        found.update({("reweight", osd): own for osd, own in self.reweights.items()})
         for command in self.commands:
             for key, own in command.change.items():
                 kind = "pg_upmap" if key.endswith("upmap") else "pg_upmap_items"
@@ -63,15 +88,30 @@ class PlanPart:
         return found
 
 
-def part_in(name: str, text: str) -> PlanPart:
+def own_in(text: str) -> Own:
+    """What a script says of its cluster: in its head, the last one of several that stand in one, or where an older one
+    has none, in what it tells and asks.
+    """
+    heads = [found for found in map(HEAD.fullmatch, text.splitlines()) if found]
+    if heads:
+        head = heads[-1]
+        fsid, crush, then = head.group(6), head.group(8), head.group(9)
+        then = crush if then == NOT_TOLD else then
+        return Own(None if fsid == NOT_TOLD else fsid, None if then in (NOT_TOLD, COMMANDS_MAKE_IT) else then)
+    told = TOLD_FSID.search(text)
+    return Own(None if told is None else told[1] or told[2], None)
+
+
+def part_in(name: str, text: str, own: Own | None = None) -> PlanPart:
     """The part that a script is. A fault for a line that is of no script of these tools, and for a change that is still
     to come.
     """
     commands, weights, out, is_stage = list[PrintedCommand](), dict[int, int](), list[int](), False
+    reweights = dict[int, int]()
     for line in text.splitlines():
         if line in PASSED or line.startswith("#") or is_guard(line):
             continue
-        weight, gone = WEIGHT.fullmatch(line), OUT.fullmatch(line)
+        weight, gone, back = WEIGHT.fullmatch(line), OUT.fullmatch(line), REWEIGHT.fullmatch(line)
         is_stage = is_stage or not FORM.fullmatch(line)
         if '"$@"' in line or "$#" in line:
             raise Fault(
@@ -81,14 +121,19 @@ def part_in(name: str, text: str) -> PlanPart:
             weights[int(weight[1])] = weight_units(float(weight[2]))
         elif gone:
             out += [int(word.removeprefix("osd.")) for word in gone[1].split()]
+        elif back:
+            reweights[int(back[1])] = weight_units(float(back[2]))
         elif line not in AROUND:
+            if NAMING.fullmatch(line):
+                raise Fault(f"{name}: a plan of reads, by which no data moves: it is run whole, as it is")
             if not FORM.fullmatch(line):
                 raise Fault(f"{name}: {line}: no line of a script of these tools")
             commands.append(command_in(line))
-    return PlanPart(name, text, commands, weights, out, is_stage)
+    own = own_in(text) if own is None else own
+    return PlanPart(name, text, commands, weights, out, reweights, is_stage, own)
 
 
-def script_text(lines: Sequence[str], is_stage: bool) -> str:
+def part_text(lines: Sequence[str], is_stage: bool) -> str:
     """The text of a part that JSON tells."""
     around = [*AROUND[:2], *lines, AROUND[2]] if is_stage else lines
     return "\n".join(["set -e", *around]) + "\n"
@@ -110,10 +155,14 @@ def parts_in_json(path: str) -> list[PlanPart]:
             forms = [(part["commands"], False) for part in value["parts"]]
         else:
             forms = [(value["commands"], command == "hold")]
-        texts = [script_text(lines, is_stage) for lines, is_stage in forms]
-    except (KeyError, TypeError, IndexError):
+        texts = [part_text(lines, is_stage) for lines, is_stage in forms]
+        sums = [value.get("crush_map")] * len(forms)
+        if command == "drain":
+            sums = [value["begin"].get("crush_map")] * (len(forms) - 1) + [value["end"].get("crush_map")]
+        owns = [Own(value.get("fsid"), own) for own in sums]
+    except (KeyError, TypeError, IndexError, AttributeError):
         raise Fault(f"{path}: no plan that `{command} --json` tells") from None
-    return [part_in(f"{path}, part {at}", text) for at, text in enumerate(texts)]
+    return [part_in(f"{path}, part {at}", text, own) for at, (text, own) in enumerate(zip(texts, owns))]
 
 
 def parts_in_folder(path: pathlib.Path) -> list[PlanPart]:
@@ -135,10 +184,25 @@ def parts_in_folder(path: pathlib.Path) -> list[PlanPart]:
 
 def parts_of_plan(path: str) -> list[PlanPart]:
     """The parts of a plan: of a folder of scripts, of JSON, or of one script."""
-    place = pathlib.Path(path)
-    if place.is_dir():
-        return parts_in_folder(place)
+    if not isinstance(path, InMemory) and os.path.isdir(path):
+        return parts_in_folder(pathlib.Path(path))
     return parts_in_json(path) if path.endswith(".json") else [part_in(path, text_of(path))]
+
+
+def check_whole(path: str, parts: Sequence[PlanPart]) -> None:
+    """A fault where parts of one plan do not say of which cluster they are, or where one is left out among several."""
+    for part in parts:
+        if part.own.fsid is None:
+            raise Fault(f"{part.name}: it does not say of which cluster it is: nothing is given")
+    turns = [found for part in parts for found in map(HEAD.fullmatch, part.text.splitlines()) if found]
+    if len(parts) < 2 or not turns:
+        return
+    numbers, count = [int(own.group(3)) for own in turns], max(int(own.group(4)) for own in turns)
+    first = 0 if turns[0].group(1) == "drain" else 1
+    missing = [at for at in range(first, count + 1) if at not in numbers]
+    if missing or len({own.groups()[4:6] for own in turns}) > 1:
+        told = f"part {missing[0]} of {count} is missing" if missing else "its parts are of several plans"
+        raise Fault(f"{path}: {told}: nothing is given")
 
 
 class Settings:
@@ -149,6 +213,7 @@ class Settings:
         dump = cluster.osd_dump
         self.now: dict[Key, object] = {("weight", osd): own for osd, own in weights_in(cluster).items()}
         self.now.update({("out", osd): own["weight"] == 0 for osd, own in cluster.osds.items()})
+        self.now.update({("reweight", osd): round(own["weight"] * 65536) for osd, own in cluster.osds.items()})
         self.now.update({("pg_upmap", entry["pgid"]): entry["osds"] for entry in entries_of(dump, "pg_upmap")})
         for entry in entries_of(dump, "pg_upmap_items"):
             pairs = [[pair["from"], pair["to"]] for pair in entry["mappings"]]

@@ -10,14 +10,14 @@ from __future__ import annotations
 from collections import Counter
 from collections.abc import Callable, Iterable, Mapping, Sequence
 from contextlib import ExitStack
-from dataclasses import dataclass
+from dataclasses import dataclass, replace
 from typing import List, Tuple
 
 from ..cluster.aftermath import raw_sets, with_exceptions
 from ..cluster.cluster import Cluster
 from ..cluster.conversion import map_of
 from ..cluster.difference import exception_commands
-from ..cluster.evenness import Spread
+from ..cluster.evenness import Spread, sums_by_osd
 from ..cluster.entry_forms import exceptions_in, pool_of
 from ..cluster.judge import Places, Reason
 from ..cluster.map_parts import map_clusters
@@ -25,7 +25,7 @@ from ..cluster.moving import erasure_pools
 from ..cluster.names import set_words
 from ..cluster.pool_data import Data
 from ..cluster.view import view_of_cluster
-from ..faults import Fault
+from ..faults import Misjudged
 from ..program.answers import Up
 from ..program.maps import (
     Exceptions,
@@ -168,8 +168,9 @@ def emptied_in(cluster: Cluster, wish: DrainWish, program: Program) -> Emptied:
     shares = view.shares(ups)
     classes = {device["id"]: device.get("class") for device in cluster.crush["devices"]} if wish.is_kept else None
     raw, pools = places_by_group(ups), [pool_of(pool) for pool in cluster.pools]
-    data = None if wish.data is None else byte_shares(pools, wish.data, raw, shares.reach_by)
-    return Emptied(frozenset(wish.osds), shares.reached, shares.reach_by, raw, classes, data)
+    reach = shares.whole_reach()
+    data = None if wish.data is None else byte_shares(pools, wish.data, raw, reach)
+    return Emptied(frozenset(wish.osds), sums_by_osd(reach), reach, raw, classes, data)
 
 
 def chooser_of(held: Cluster, sets: Mapping[str, Places], emptied: Emptied, program: Program) -> Chooser:
@@ -203,7 +204,7 @@ def planned_targets(
     """Where a plan of the cluster without the emptied OSDs has those groups that go anyway."""
     with ExitStack() as stack:
         lives = opened(stack, view_of_cluster(end), program)
-        outcome = planned(lives, DEFAULT_WISH)
+        outcome = planned(lives, replace(DEFAULT_WISH, is_by_reach=True, is_free=True))
         steps = [step for step in outcome.steps if step.group in targets]
         kept = mended(Measures(lives, None, None).gauges(), steps)
     moved = {step.group: step.now for step in kept if chooser.way_of(step.group, step.now) is not None}
@@ -229,7 +230,7 @@ def check_targets(end: Stage, targets: Mapping[str, list[int | None]]) -> None:
     for own in end.hold.groups:
         wanted = targets.get(own.group, own.was)
         if not as_had(own.was, wanted, own.is_erasure):
-            raise Fault(
+            raise Misjudged(
                 f"{own.group} would have {set_words(own.was)} and not {set_words(wanted)}: a defect of the tools; "
                 f"nothing is put out"
             )

@@ -18,7 +18,7 @@ from .printed_commands import FORM, PrintedCommand, defect
 
 # Whose items all have one weight, so that none of them has another by itself.
 UNIFORM = "uniform"
-AT = "`hold --at PGS` stops what is moving still"
+AT = "`hold --pgs PGS` stops what is moving still"
 
 
 def osds_listed(osds: Iterable[int]) -> str:

@@ -18,10 +18,11 @@ from ..cluster.judge import Places
 from ..cluster.map_parts import map_clusters
 from ..cluster.moving import coming, has_moved, split_group
 from ..cluster.names import set_words
+from ..cluster.pools_beside import PoolsBeside, beside
 from ..cluster.reasons import reasons
 from ..cluster.releases import least_client
 from ..cluster.unrest import Unrest, losing, unrest_of
-from ..faults import Fault
+from ..faults import Misjudged
 from ..program.map_forms import EXCEPTIONS
 from ..program.maps import Exceptions, Map, Program, entries_of, exceptions_where, group_key, groups_in, with_all_up
 from ..values import SLOTS
@@ -36,7 +37,7 @@ from .printed import Asked, Printed
 class Sides:
     """What stands on both sides of a change: the set that each group had; how many groups each pool had; the cluster
     behind the change, with the exceptions that it has before anything is held; the groups whose exceptions the monitor
-    takes away on the way; and the cluster before the change, where it is known.
+    takes away on the way; the cluster before the change, where it is known; and what it is between its commands.
     """
 
     has: Mapping[str, list[int | None]]
@@ -44,6 +45,13 @@ class Sides:
     new: Cluster
     lost: frozenset[str]
     old: Cluster | None
+    between: tuple[Cluster, ...] = ()
+
+    def beside(self) -> PoolsBeside:
+        """The pools that are left out, with what may move of them by the change."""
+        if self.old is None:
+            return beside(self.new, (), True)
+        return beside(self.old, [*self.between, self.new])
 
 
 @dataclass(frozen=True, **SLOTS)
@@ -73,9 +81,13 @@ class Hold:
 
     @property
     def is_idle(self) -> bool:
-        """Whether groups would move that are to be held, and none of them is."""
-        moving = [own for own in self.moving() if own.why is not NOT_CHOSEN]
-        return bool(moving) and not any(own.is_held for own in moving)
+        """Whether groups would move, and none of them is held."""
+        return bool(self.moving()) and not any(own.is_held for own in self.moving())
+
+    @property
+    def is_beside(self) -> bool:
+        """Whether none of the groups that would move is chosen."""
+        return all(own.why is NOT_CHOSEN for own in self.moving())
 
     def left(self) -> list[Held]:
         """The groups that cannot be held, or only in part."""
@@ -129,12 +141,13 @@ def counts_in(cluster: Cluster) -> dict[int, int]:
 
 def sides_of_change(cluster: Cluster, steps: list[Command], program: Program) -> Sides:
     """Both sides of a change that commands make. A fault where the cluster then stays out."""
-    new, known = cluster, set(reasons(cluster, True, False))
+    new, known, between = cluster, set(reasons(cluster, True, False)), list[Cluster]()
     for step in steps:
         new = after_command(new, step, known)
+        between.append(new)
     course = aftermath(cluster, steps, program) if len(steps) > 1 else None
     lost = frozenset() if course is None else frozenset(course.gone.keys() | set(course.fewer))
-    return Sides(mapped_sets(cluster, program), counts_in(cluster), new, lost, cluster)
+    return Sides(mapped_sets(cluster, program), counts_in(cluster), new, lost, cluster, tuple(between))
 
 
 def check_held(new: Cluster, held: Iterable[Held], goal: Exceptions, program: Program) -> None:
@@ -145,7 +158,7 @@ def check_held(new: Cluster, held: Iterable[Held], goal: Exceptions, program: Pr
     unlike = [own for own in held if sets[own.group] != own.now]
     if unlike:
         first = unlike[0]
-        raise Fault(
+        raise Misjudged(
             f"{counted(len(unlike), 'group')} would not have what is told, the first {first.group}: "
             f"{set_words(sets[first.group])} and not {set_words(first.now)}: a defect of the tools; nothing is put out"
         )

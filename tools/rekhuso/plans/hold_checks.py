@@ -2,7 +2,6 @@
 
 from __future__ import annotations
 
-import sys
 from collections.abc import Mapping, Sequence
 
 from ..cluster.aftermath import Command, StateChange
@@ -14,9 +13,10 @@ from ..cluster.new_crush import PoolChange
 from ..cluster.outage import outage_of
 from ..cluster.told_view import verified_view
 from ..cluster.view import ClusterView
-from ..faults import Fault
+from ..faults import Fault, Wait
 from ..program.answers import Up
 from ..program.maps import Program, entries_of
+from ..running import tell
 from ..words import counted
 from .question import sets_of_maps
 
@@ -95,7 +95,7 @@ def much_moving(cluster: Cluster, program: Program) -> list[str]:
     maps = [map_of(part) for part in map_clusters(cluster)] if temporary else []
     found = misplaced_of(cluster.osd_dump, sets_of_maps(maps, program)) if temporary else None
     if found is not None and found.share < MOST:
-        print(found, file=sys.stderr)
+        tell(found)
     much = [] if found is None or found.share < MOST else [str(found)]
     return much + outage_words(cluster, program)
 
@@ -115,7 +115,7 @@ def check_torn(groups: Sequence[str], count: int, path: str, is_asked: bool) -> 
         check_still(found, is_asked, "held")
         return frozenset()
     for line in found:
-        print(f"{line}; they stay as they are", file=sys.stderr)
+        tell(f"{line}; they stay as they are")
     return frozenset(groups)
 
 
@@ -129,7 +129,12 @@ def told_words(view: ClusterView, sets: Mapping[str, Up], path: str, is_whole: b
 
 def check_still(found: list[str], is_asked: bool, what: str) -> None:
     """Tells on standard error why a cluster is not still. A fault where nothing is asked for nonetheless."""
+    check_told(found, is_asked, what, Wait)
+
+
+def check_told(found: list[str], is_asked: bool, what: str, kind: type[Fault] = Fault) -> None:
+    """Tells on standard error what is against something. A fault where it is not asked for nonetheless."""
     if found and not is_asked:
-        raise Fault(*found, f"nothing is {what}: --anyway does it nonetheless")
+        raise kind(*found, f"nothing is {what}: --anyway does it nonetheless")
     for line in found:
-        print(line, file=sys.stderr)
+        tell(line)

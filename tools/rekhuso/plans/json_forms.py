@@ -18,8 +18,18 @@ from ..program.maps import Entry
 
 
 class PoolSpreadParts(SpreadParts):
-    """The same for one pool, with the greatest distance from a share."""
+    """How even the OSDs of a pool are: the least and the greatest number of groups, and the standard deviation from the
+    shares and the greatest.
+    """
 
+    farthest: float
+
+
+class LeadParts(TypedDict):
+    """How many groups OSDs lead: the least and the greatest number, and the greatest distance from a share."""
+
+    least: int
+    greatest: int
     farthest: float
 
 
@@ -65,6 +75,16 @@ class DataParts(TypedDict):
     stays: list[StayParts]
 
 
+class AllPoolsParts(TypedDict):
+    """How even a cluster is before and after a plan of some pools, by all pools that can be placed, which are told by
+    their ids.
+    """
+
+    pools: list[int]
+    before: FillParts
+    after: FillParts
+
+
 class MovingParts(TypedDict):
     """What a plan, or a part of it, moves; bytes and their share of the data of all pools are None where nobody tells
     how much the pools hold.
@@ -108,6 +128,26 @@ class WorthParts(TypedDict):
     by: str
     fullest: list[list[float]]
     first: FirstParts
+
+
+class WayParts(TypedDict):
+    """A plan that was tried, by what it goes by: how full the fullest OSD is after it, to its share by weight."""
+
+    by: str
+    bytes: float | None
+    groups: float
+    places: int
+    keeps_room: bool
+
+
+class ChosenParts(TypedDict):
+    """By what a plan goes, of those that were tried, and how full any leaves the fullest OSD, to its weight, at
+    least.
+    """
+
+    by: str
+    ways: list[WayParts]
+    least: float | None
 
 
 class PlanParts(TypedDict):

@@ -2,11 +2,13 @@
 
 A plan moves whole groups, and gives no failure domain two places of one. So what OSDs can have up to a ratio to their
 shares is counted in whole places: of all pools together by groups, and by bytes of each pool that has most, beside what
-is not moved. No plan ends below the least ratio at which all places fit; a plan need not come so far.
+is not moved. No plan ends below the least ratio at which all places fit, nor below the mean; it need not come so far.
+For all pools at once, beside what OSDs weigh, `cluster/joint.py` has a bound.
 """
 
 from __future__ import annotations
 
+import math
 from collections.abc import Callable, Collection, Iterable, Mapping, Sequence
 from dataclasses import dataclass
 from functools import partial
@@ -81,6 +83,14 @@ def of_pools(measures: Measures, still: Collection[int], wanted: Mapping[int, fl
         yield FittingPlaces(sum(counts.values()), min(sizes[number]) / BYTE_PARTS, there)
 
 
+def mean_of(measures: Measures, wanted: Mapping[int, float]) -> float:
+    """What all OSDs that are to have something have to that: one has as much, or more."""
+    own = measures.bytes() if measures.aims is not None and measures.aims.is_whole else None
+    has = measures.before.has if own is None else own.has
+    osds = sorted(osd for osd, share in wanted.items() if share > 0)
+    return math.fsum(has.get(osd, 0.0) for osd in osds) / math.fsum(wanted[osd] for osd in osds)
+
+
 def least_of(measures: Measures, still: Collection[int]) -> float:
     """How full the fullest OSD stays at least, by bytes where they are known, where some pools are not moved."""
     aims, fixed = measures.aims, dict[int, float]()
@@ -95,4 +105,5 @@ def least_of(measures: Measures, still: Collection[int]) -> float:
                 fixed[osd] = fixed.get(osd, 0.0) + size / BYTE_PARTS
 
     full = [fixed.get(osd, 0.0) / own for osd, own in wanted.items() if own > 0]
+    full += [mean_of(measures, wanted)] if full else []
     return max([*(least_for(partial(own.fit, wanted, fixed)) for own in places), *full], default=0.0)

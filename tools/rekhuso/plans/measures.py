@@ -9,12 +9,13 @@ from itertools import repeat
 from operator import mul, sub
 from typing import cast
 
-from ..cluster.evenness import Spread, room, sums_by_osd
+from ..cluster.evenness import Spread, sums_by_osd
 from ..cluster.pool_data import Data
 from ..program.maps import Pool, group_key
 from .byte_aims import ByteAims
 from .hindrances import TOLD
 from .json_forms import ClusterParts, DataParts, HindranceParts, PoolSpreadParts, StayParts
+from .max_avail import MaxAvail, RoomGauge, max_avail
 from .mend import Gauge
 from .rounds import Live
 from .step_order import has_after
@@ -53,8 +54,11 @@ class Measures:
     hold by bytes.
     """
 
-    def __init__(self, lives: list[Live], data: Data | None, aims: ByteAims | None) -> None:
-        """Takes the maps of a cluster, what its pools hold, and what its OSDs are to hold."""
+    def __init__(self, lives: list[Live], data: Data | None, aims: ByteAims | None, is_promised: bool = False) -> None:
+        """Takes the maps of a cluster, what its pools hold, what its OSDs are to hold, and whether no pool may take
+        less after a plan.
+        """
+        self.avail, self.is_promised = self.avail_of(lives, data, aims), is_promised
         self.lives, self.data, self.aims = {number: live for live in lives for number in live.pools}, data, aims
         self.pools: dict[int, Pool] = {number: live.pools[number] for number, live in sorted(self.lives.items())}
         self.counts: dict[int, dict[int, int]] = {
@@ -64,7 +68,38 @@ class Measures:
         self.sizes = None if aims is None else aims.groups
         self.wanted = sums_by_osd(self.shares)
         self.before = Spread(sums_by_osd(self.counts), self.wanted)
-        self.weights = {osd: own for live in lives for osd, own in live.before.items.items() if osd >= 0}
+
+    def avail_of(self, lives: list[Live], data: Data | None, aims: ByteAims | None) -> MaxAvail | None:
+        """What pools may take, as far as it is known; None where other pools hold data too, and where nobody tells what
+        pools hold and OSDs are to have what they weigh for, by which they are told apart then.
+        """
+        if aims is None or data is None:
+            return None if all(live.is_by_weight() for live in lives) else max_avail(lives, None)
+        return max_avail(lives, data) if aims.is_whole else None
+
+    def used(self, steps: Sequence[PlanStep] = ()) -> dict[int, float]:
+        """What OSDs have once steps are taken, in bytes where it is known what pools hold, else in groups."""
+        before = self.before.has if self.aims is None else self.aims.has
+        return has_after(before, self.sizes, steps)
+
+    def keeps_room(self, steps: Sequence[PlanStep]) -> bool:
+        """Whether no pool may take less once steps are taken, as far as it is known."""
+        return self.avail is None or self.avail.is_kept(self.used(), self.used(steps))
+
+    def falls(self, steps: Sequence[PlanStep]) -> list[float]:
+        """By which part of it the pool that loses most may take less, before some steps and after each, as far as it is
+        known.
+        """
+        if self.avail is None:
+            return [0.0] * (len(steps) + 1)
+        return self.avail.falls(self.used(), self.sizes, steps)
+
+    def room_gauges(self) -> list[RoomGauge]:
+        """What keeps pools from taking less after a plan, where that is promised."""
+        if self.avail is None or not self.is_promised:
+            return []
+        used = self.used()
+        return [RoomGauge(used, self.sizes, self.avail.most(used))]
 
     def groups(self, counts: Mapping[int, Mapping[int, int]]) -> Spread:
         """What OSDs have in groups, by the counts of each pool."""
@@ -94,7 +129,8 @@ class Measures:
         """What no plan may leave less even."""
         used = self.bytes()
         found = [Gauge(self.groups(self.counts), None, False)]
-        return found if used is None else found + [Gauge(used, self.sizes, True)]
+        found += [] if used is None else [Gauge(used, self.sizes, True)]
+        return [*found, *self.room_gauges()]
 
     def largest(self) -> int | None:
         """The pool of several groups with most data, the lowest of several; None where nobody tells or none has any."""
@@ -105,15 +141,8 @@ class Measures:
 
     def room(self, used: Spread) -> int | None:
         """The bytes that the pool with most data may still take, where OSDs have so many in use."""
-        number, data = self.largest(), self.data
-        if number is None or data is None:
-            return None
-        trees = self.lives[number].before.trees_for(self.pools[number])
-        own, unit = [{osd: self.weights[osd] for osd in tree} for tree in trees], data.unit(self.weights.values())
-        sizes = {
-            osd: data.disks[osd].size if data.disks else weight * unit for tree in own for osd, weight in tree.items()
-        }
-        return round(room(own, sizes, used.has, data.rate(self.pools[number])))
+        number = self.largest()
+        return None if number is None or self.avail is None else round(self.avail.of(number, used.has))
 
     def data_parts(self, steps: Sequence[PlanStep], stays: dict[int, list[HindranceParts]]) -> DataParts | None:
         """What is told of the data: whether each group's is known or only the mean of its pool, whether the disks are,

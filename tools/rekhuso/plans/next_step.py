@@ -7,10 +7,9 @@ has, has been given.
 
 from __future__ import annotations
 
-import re
 from collections import Counter
 from collections.abc import Mapping, Sequence
-from dataclasses import dataclass, field
+from dataclasses import dataclass, field, replace
 
 from ..cluster.aftermath import Command, CrushWeights, StateChange
 from ..cluster.cluster import Cluster
@@ -21,16 +20,18 @@ from ..cluster.map_parts import map_clusters
 from ..cluster.moving import leaving
 from ..cluster.outage import outage_of
 from ..cluster.view import ClusterView, view_of_cluster
-from ..faults import Fault
+from ..faults import Changed, Fault, Wait
 from ..program.answers import Up
 from ..program.maps import Map, Program, group_key
 from ..values import SLOTS
+from ..words import counted
 from .bounds import Filling, Measure, Step
 from .busy import Busy, MostBusy, partakers
 from .carried import PlanPart, Settings, commands_by_group, groups_in_parts, part_in
 from .courses import Course, Play
-from .drain_stages import after_all, light_osds
-from .guards import Guards, guarded
+from .drain_stages import after_all, light_osds, weights_in
+from .guards import NO_GUARDS, Guards, guarded, guards_of, pool_asked, pools_asked
+from .heads import sum_of_crush
 from .printed_commands import PrintedCommand
 from .question import sets_of_maps
 from .step_order import EVEN
@@ -66,7 +67,8 @@ class Amount:
 class NextStep:
     """What is to be done now: the status, the text of the commands, and the part that they are of; how many groups are
     done, and what is under way and left; how many places are under way in the whole cluster; the commands that are left
-    out, each with why; and of each OSD how many places are under way to it, are left, and are still to go from it.
+    out, each with why; of each OSD how many places are under way to it, are left, and are still to go from it; and
+    where the groups are that are still to be sent, once they are.
     """
 
     status: int
@@ -78,6 +80,7 @@ class NextStep:
     moving: int
     left_out: list[tuple[str, str]]
     by_osd: dict[int, tuple[int, int, int]]
+    after: Mapping[str, Places]
 
 
 @dataclass(**SLOTS)
@@ -134,7 +137,7 @@ def now_of(cluster: Cluster, states: Mapping[str, GroupState], ups: Mapping[str,
     osds = {osd["id"]: osd for value in view.maps for osd in value["osds"]}
     outage = outage_of(osds.values(), view.pools, ups)
     if outage is not None:
-        raise Fault(f"{outage}; no command is given")
+        raise Wait(f"{outage}; no command is given")
     return Now(cluster, view, ups, states, erasure_groups(cluster, list(ups)))
 
 
@@ -143,7 +146,7 @@ def now_of(cluster: Cluster, states: Mapping[str, GroupState], ups: Mapping[str,
 
 def changed(fault: Fault) -> Fault:
     """That the cluster is no longer the one for which a plan was made."""
-    return Fault(
+    return Changed(
         *(f"the cluster has changed: {line.split(': a defect')[0]}" for line in fault.lines), "nothing is given"
     )
 
@@ -180,6 +183,13 @@ def is_drained(command: PrintedCommand, cluster: Cluster, light: set[int]) -> st
         if own is None or own["weight"] == 0 or osd in light:
             return f"osd.{osd} is {'gone' if own is None else 'out' if own['weight'] == 0 else 'drained'}"
     return None
+
+
+def steps_of_stage(part: PlanPart) -> list[Command]:
+    """The change that a stage makes, by its commands."""
+    steps: list[Command] = [CrushWeights({osd: weight}, False) for osd, weight in part.weights.items()]
+    states = [[osd, 0] for osd in part.out] + [[osd, own] for osd, own in part.reweights.items()]
+    return [*steps, StateChange({"weight": states})] if states else steps
 
 
 class Choice:
@@ -245,10 +255,13 @@ class Carrying:
         return self.at < len(self.parts) and self.parts[self.at].is_stage
 
     def commands_left(self, at: int) -> dict[str, list[PrintedCommand]]:
-        """The commands of a part that are still to be given, by their groups; none of a stage, which is given whole."""
+        """The commands of a part that are still to be given, by their groups; none of a stage, which is given whole.
+        Behind a stage that is to come all are: what a part takes away, that has not come yet.
+        """
         found: dict[str, list[PrintedCommand]] = {}
+        is_early = any(self.parts[one].is_stage and not self.settings.is_given(one) for one in range(at))
         for group, commands in {} if self.parts[at].is_stage else commands_by_group(self.parts[at]).items():
-            if self.settings.has_group(at, group):
+            if not is_early and self.settings.has_group(at, group):
                 continue
             barred = [(one.line, is_drained(one, self.now.cluster, self.light)) for one in commands]
             why = next(((line, told) for line, told in barred if told is not None), None)
@@ -266,10 +279,7 @@ class Carrying:
         """The maps of the cluster, as they are behind the change of the stage that comes next."""
         if not self.is_at_stage:
             return self.now.view.maps
-        part = self.parts[self.at]
-        steps: list[Command] = [CrushWeights({osd: weight}, False) for osd, weight in part.weights.items()]
-        steps += [StateChange({"weight": [[osd, 0] for osd in part.out]})] if part.out else []
-        return [map_of(own) for own in map_clusters(after_all(self.now.cluster, steps))]
+        return [map_of(own) for own in map_clusters(after_all(self.now.cluster, steps_of_stage(self.parts[self.at])))]
 
     def sets_after(self) -> dict[str, Places]:
         """Where the groups are that are still to be sent, once they are."""
@@ -319,9 +329,16 @@ class Carrying:
             own = self.rest()
             lines = [command.line for group in self.chosen() for command in own[group]]
             text = "\n".join(["set -e", *lines]) + "\n" if lines else ""
-        text = guarded(text, self.wish.guards)
+        guards = self.wish.guards
+        text = guarded(text, guards.asking(pools_asked(self.now.cluster), True) if self.is_at_stage else guards)
         courses_of(self.maps(), part_in("", text).commands, self.program)
         return text
+
+    def to_hold(self) -> set[str]:
+        """The groups that a stage is still to hold, and that no part before it has sent."""
+        stages = [at for at in range(self.at, len(self.parts)) if self.parts[at].is_stage and self.is_to_come(at)]
+        before = [{group for own in self.groups[:at] for group in own} for at in stages]
+        return {group for at, sent in zip(stages, before) for group in self.groups[at] if group not in sent}
 
     def step(self) -> NextStep:
         """What is to be done now."""
@@ -337,28 +354,90 @@ class Carrying:
             OUT if text else DONE if is_done else WAITS,
             text,
             self.parts[self.at].name if self.at < len(self.parts) else "",
-            len(own - under.keys() - rest.keys()),
+            len(own - under.keys() - rest.keys() - self.to_hold()),
             self.now.progress(under),
             self.now.progress(rest),
             sum(map(len, self.now.moving.values())),
             self.left_out,
             {osd: (to_come[osd], to_send[osd], to_go[osd]) for osd in sorted(to_come | to_send | to_go)},
+            self.after,
         )
 
 
+# Whether the cluster is that of the plan
+
+
+def weighted_as(cluster: Cluster, part: PlanPart) -> Cluster:
+    """A cluster whose OSDs have the weights that a part gives them, whichever of them are given."""
+    now = weights_in(cluster)
+    steps: list[Command] = [
+        CrushWeights({osd: weight}, False) for osd, weight in part.weights.items() if now.get(osd) not in (None, weight)
+    ]
+    return after_all(cluster, steps)
+
+
+def has_crush_map(cluster: Cluster, parts: Sequence[PlanPart]) -> bool:
+    """Whether a cluster has the CRUSH map of a plan, or one that it has on its way, as between two weights of a stage;
+    also where no part tells one.
+    """
+    told = [part for part in parts if part.own.crush is not None]
+    return not told or any(sum_of_crush(weighted_as(cluster, part)) == part.own.crush for part in told)
+
+
+def check_pools_of(cluster: Cluster, parts: Sequence[PlanPart]) -> None:
+    """A fault where a pool that a plan asks for has other groups now, or is to be split or shrunk."""
+    pools = guards_of(cluster).pools
+    for number, groups, placed, is_at_rest in {own for part in parts for own in map(pool_asked, part.guards) if own}:
+        now = pools.get(number)
+        if now is None or (now.groups, now.placed) != (groups, placed) or is_at_rest > now.is_at_rest:
+            name = number if now is None else now.name
+            told = (
+                f"pool {name} has no longer {counted(groups, 'group')} placed by {placed}, or is to be split or shrunk"
+            )
+            raise Changed(f"the cluster has changed: {told}", "nothing is given")
+
+
 def check_cluster(cluster: Cluster, parts: Sequence[PlanPart]) -> None:
-    """A fault where scripts say that they are of another cluster."""
+    """A fault where a plan says that it is of another cluster, or for another CRUSH map."""
     own = cluster.osd_dump.get("fsid")
     for part in parts:
-        found = re.search(r"^# rekhuso: .*\bfsid ([0-9a-f-]{36})", part.text, re.M)
-        if found and own is not None and found[1] != own:
-            raise Fault(f"{part.name}: of another cluster: its fsid is {found[1]}, and that of the cluster {own}")
+        if part.own.fsid is not None and own is not None and part.own.fsid != own:
+            told = f"its fsid is {part.own.fsid}, and that of the cluster {own}"
+            raise Fault(f"{part.name}: of another cluster: {told}; nothing is given")
+    check_pools_of(cluster, parts)
+    if not has_crush_map(cluster, parts):
+        raise Changed(
+            f"{parts[0].name}: for another CRUSH map than the cluster has: make the plan anew; nothing is given"
+        )
+
+
+def carrying_over(now: Now, parts: Sequence[PlanPart], wish: NextWish, program: Program) -> Carrying:
+    """A plan and the cluster on which it is carried out, as that is now. A fault where that is no longer the one for
+    which it was made.
+    """
+    check_cluster(now.cluster, parts)
+    fsid = next((part.own.fsid for part in parts if part.own.fsid is not None), None)
+    if fsid is not None and wish.guards != NO_GUARDS:
+        wish = replace(wish, guards=replace(wish.guards, fsid=fsid))
+    return Carrying(now, parts, wish, program)
+
+
+def step_over(now: Now, parts: Sequence[PlanPart], wish: NextWish, program: Program) -> NextStep:
+    """What of a plan is to be done now, over a cluster as it is."""
+    return carrying_over(now, parts, wish, program).step()
+
+
+def carrying_of(
+    cluster: Cluster, parts: Sequence[PlanPart], states: Mapping[str, GroupState], wish: NextWish, program: Program
+) -> Carrying:
+    """The same, where the sets of its groups are to be asked for."""
+    check_cluster(cluster, parts)
+    ups = sets_of_maps(view_of_cluster(cluster).maps, program)
+    return carrying_over(now_of(cluster, states, ups), parts, wish, program)
 
 
 def next_step(
     cluster: Cluster, parts: Sequence[PlanPart], states: Mapping[str, GroupState], wish: NextWish, program: Program
 ) -> NextStep:
     """What of a plan is to be done now. A fault where the cluster is no longer the one for which it was made."""
-    check_cluster(cluster, parts)
-    ups = sets_of_maps(view_of_cluster(cluster).maps, program)
-    return Carrying(now_of(cluster, states, ups), parts, wish, program).step()
+    return carrying_of(cluster, parts, states, wish, program).step()

@@ -7,6 +7,7 @@ from collections.abc import Callable
 from contextlib import ExitStack
 from dataclasses import dataclass, replace
 from fractions import Fraction
+from itertools import groupby
 
 from ..cluster.cleanup import going, reason_words
 from ..cluster.cluster import Cluster
@@ -23,16 +24,20 @@ from ..faults import Fault
 from ..program.maps import Program, group_key
 from ..values import SLOTS
 from .again import after, moved_data, steps_between
+from .best_plan import BesideWeights, Chosen, best_of
 from .bounds import Measure
 from .busy import ALL, MostBusy, NO_LIMIT
 from .byte_aims import ByteAims
 from .byte_rounds import Passed, planned_by_data
 from .cycles import without_cycles
 from .gains import command_count, gains
+from .shared_by import SharedBy
 from .hindrances import hindrances_by_mending
+from .joint_shares import lay_joint, least_to_weight
 from .json_forms import ClusterParts, DataParts, HindranceParts, PlanParts
 from .last_pass import NEAR
 from .least import least_of
+from .max_avail import LESS
 from .measures import Measures, counts_after, pool_spread
 from .mend import mended
 from .pair_plans import PairPlanner
@@ -43,7 +48,7 @@ from .rounds import Live, MOST_MOVES, Planner, SMALL_CLUSTER, left_out
 from .spare import spared
 from .step_order import limited, parts_in_order
 from .steps import PlanStep, appended_pairs, batches, steps_by_pool, steps_of
-from .worth import Worth, until, worth_of
+from .worth import Worth, kept_until, until, worth_of
 
 # How many groups an OSD may be from its share after a plan, where nothing else is asked for.
 DEVIATION = Fraction(1)
@@ -54,8 +59,9 @@ class Wish:
     """What plans are asked for: the pools that are named (all of several groups where none is), how near its shares a
     plan brings OSDs, how many commands or moves there are at most, how many commands stand in a part, whether each pool
     is planned by itself, whether the plan is for room alone, whether it goes by weights, whatever the rules can give,
-    what the pools hold, how full a disk may get, in how many moves of a part OSDs take part at most, and to which ratio
-    to its share the fullest OSD is to come, if no further.
+    what the pools hold, how full a disk may get, in how many moves of a part OSDs take part at most, to which ratio to
+    its share the fullest OSD is to come, if no further, whether the plan goes by what the rule of each pool can give,
+    whatever else would be better, and whether pools may take less after it.
     """
 
     named: frozenset[int]
@@ -69,6 +75,8 @@ class Wish:
     nearfull: float
     busy: MostBusy = NO_LIMIT
     until: float | None = None
+    is_by_reach: bool = False
+    is_free: bool = False
 
     def half(self) -> int:
         """Half of what two OSDs must differ by for a move, in 256ths of a group."""
@@ -78,6 +86,8 @@ class Wish:
 # How many plans are made, one over the other, before the commands of a further one are told: of a cluster of as many
 # pools, times the OSDs, as its last moves are looked for one by one, and of a greater one.
 MOST_PLANS, FEW_PLANS = 32, 4
+# How many plans that are each the best of several are made, one over the other, before the same is told.
+MOST_TURNS = 4
 # The plan of a whole cluster, where nothing else is asked for.
 DEFAULT_WISH = Wish(frozenset(), None, ALL, ALL, False, False, False, None, NEARFULL)
 
@@ -89,7 +99,8 @@ class Outcome:
     is known, the OSDs that would get nearfull by steps that are left for their sake, each with how many, what is told
     of the data, by what OSDs are full on the way, where the steps stand in an order, how many commands a further plan
     has over this one, what the commands are worth in their order, and how full any plan leaves the
-    fullest OSD at least.
+    fullest OSD at least; by what OSDs share the places of pools, beside other ways that were tried; and after how many
+    commands the pool that loses most may take least, by which part less than before, where one may take less.
     """
 
     parts: list[list[PlanStep]]
@@ -104,6 +115,8 @@ class Outcome:
     rest: int = 0
     worth: Worth | None = None
     least: float = 0.0
+    chosen: Chosen | None = None
+    falls: tuple[int, float] | None = None
 
     @property
     def steps(self) -> list[PlanStep]:
@@ -165,6 +178,7 @@ def cluster_steps(
     """
     planner, passed = Planner(lives, wanted, wish.data, wish.half()), Passed([], [], {})
     planner.by_pairs = PairPlanner()
+    planner.is_one_of_several = wish.deviation is None and len(goals_of(lives, wish)) > 1
     if aims is not None and aims.is_whole:
         most = wish.most if wish.most < ALL else None
         passed = planned_by_data(planner, aims, wish.is_room, most, rooms, tell)
@@ -246,7 +260,7 @@ def silent(_: str) -> None:
 def kept_steps(measures: Measures, made: PlannedSteps, wish: Wish) -> list[PlanStep]:
     """The steps as the groups are numbered; for the sake of the cluster without those that leave it less even."""
     steps = sorted(made.steps, key=lambda step: group_key(step.group))
-    return steps if wish.is_alone else mended(measures.gauges(), steps)
+    return mended(measures.room_gauges(), steps) if wish.is_alone else mended(measures.gauges(), steps)
 
 
 def without(steps: list[PlanStep], kept: list[PlanStep]) -> list[str]:
@@ -300,11 +314,12 @@ def passed_over(
     lives: list[Live], wanted: list[int], wish: Wish, rooms: Rooms | None, tell: Callable[[str], None]
 ) -> Pass:
     """Plans pools of a cluster once; nothing where nothing is gained."""
+    lay_joint(lives, wanted, wish.data)
     aims = None if wish.data is None else ByteAims(lives, wish.data)
     if rooms is not None and aims is not None:
         rooms.begin(lives, aims)
     made = alone_steps(lives, wanted, wish) if wish.is_alone else cluster_steps(lives, wanted, wish, aims, rooms, tell)
-    measures = Measures(lives, wish.data, aims)
+    measures = Measures(lives, wish.data, aims, not wish.is_free)
     kept = kept_steps(measures, made, wish)
     taken_out = without(made.steps, kept)
     if aims is not None and aims.is_whole and not wish.is_alone:
@@ -385,6 +400,7 @@ def best_course(lives: list[Live], wanted: list[int], wish: Wish, tell: Callable
     other room. Where steps are left for the sake of disks, and an OSD stays above what is near its share, the way is
     taken by which the fullest gets least full, in a cluster of not too many pools and OSDs.
     """
+    lay_joint(lives, wanted, wish.data)
     has_disks = wish.data is not None and bool(wish.data.disks) and wish.batch == ALL and not wish.is_alone
     aims = ByteAims(lives, wish.data) if wish.data is not None and has_disks else None
     if aims is None or not aims.disks:
@@ -419,27 +435,106 @@ def with_later(lives: list[Live], wish: Wish, measures: Measures, found: Outcome
         return found
     own = [after(live, found.steps) for live in lives]
     own_wish = wish if wish.data is None else replace(wish, data=moved_data(wish.data, measures.sizes, found.steps))
-    later = planned_once(own, own_wish, silent)[0].steps
+    later = planned_once(own, own_wish, silent).outcome.steps
     come = Counter(osd for step in later for osd in step.places_come() if osd in found.stopped)
     return replace(found, rest=command_count(later), stopped=dict(come) if wish.batch == ALL else found.stopped)
 
 
+@dataclass(frozen=True, **SLOTS)
+class PlanMade:
+    """A plan, or the best of several toward other goals: what it is, how it was made, and whether steps are left for
+    the sake of nearly full OSDs: what a plan over it has is not known then.
+    """
+
+    outcome: Outcome
+    course: PlanCourse
+    is_stopped: bool
+
+
 def planned(lives: list[Live], wish: Wish, tell: Callable[[str], None] = silent) -> Outcome:
     """Plans pools of a cluster, and tells how far it is meanwhile."""
-    found, measures, is_stopped = planned_once(lives, wish, tell)
-    if is_stopped and wish.most == ALL and wish.until is None:
-        return with_later(lives, wish, measures, found)
-    return found
+    found = planned_once(lives, wish, tell)
+    if wish.most < ALL or wish.until is not None or not (found.is_stopped or found.outcome.chosen):
+        return found.outcome
+    if has_disks(wish):
+        return with_later(lives, wish, found.course.passes[0].measures, found.outcome)
+    return carried_on(lives, wish, found, tell)
 
 
-def planned_once(lives: list[Live], wish: Wish, tell: Callable[[str], None]) -> tuple[Outcome, Measures, bool]:
-    """The same, by what it is measured, and whether steps are left for the sake of nearly full OSDs: what a plan over
-    it has is not known then.
+def has_disks(wish: Wish) -> bool:
+    """Whether the disks are known."""
+    return wish.data is not None and bool(wish.data.disks)
+
+
+def carried_on(lives: list[Live], wish: Wish, found: PlanMade, tell: Callable[[str], None]) -> Outcome:
+    """A plan that is the best of several, and those over it as one with it, until one of them is empty: from where it
+    ends the best may go by other shares.
     """
+    row, rows = [found], [lives]
+    while row[-1].outcome.steps and len(row) <= MOST_TURNS:
+        rows.append([after(live, row[-1].outcome.steps) for live in rows[-1]])
+        row.append(planned_once(rows[-1], wish, tell))
+    rest, row = command_count(row[-1].outcome.steps), row[:-1]
+    if len(row) < 2:
+        return replace(found.outcome, rest=rest)
+    steps = [step for one, other in zip(lives, rows[len(row)]) for step in steps_between(one, other)]
+    for live, own in zip(lives, rows[len(row) - 1]):
+        live.go_as(own)
+    aims = None if wish.data is None else ByteAims(lives, wish.data)
+    passes = [own for one in row for own in one.course.passes]
+    passes[0] = replace(passes[0], measures=Measures(lives, wish.data, aims, not wish.is_free))
+    made = outcome_toward(lives, wish, PlanCourse(passes, steps, rest, None)).outcome
+    chosen = [one.outcome.chosen for one in row if one.outcome.chosen is not None]
+    goals = [own for own, _ in groupby(goal for own in chosen for goal in own.best.goals)]
+    return replace(made, chosen=chosen[0].with_best(BesideWeights(lives, wish.data).way(goals, made.steps)))
+
+
+def goals_of(lives: list[Live], wish: Wish) -> list[SharedBy]:
+    """What plans may go by: where the rules cannot give OSDs what they weigh, each of them is tried."""
+    if wish.is_by_weight:
+        return [SharedBy.WEIGHT]
+    if wish.is_alone or wish.is_by_reach or all(live.is_by_weight() for live in lives):
+        return [SharedBy.REACH]
+    return [*SharedBy]
+
+
+def planned_once(lives: list[Live], wish: Wish, tell: Callable[[str], None]) -> PlanMade:
+    """The same; of the plans toward several goals it is the best."""
+    goals, found, runs = goals_of(lives, wish), list[PlanMade](), list[list[Live]]()
+    for goal in goals:
+        runs.append([after(live, []) for live in lives] if runs else lives)
+        for live in runs[-1]:
+            live.go_toward(goal, wish.is_by_weight)
+        course = best_course(runs[-1], wanted_of(runs[-1], wish), wish, tell)
+        found.append(outcome_toward(runs[-1], wish, course))
+    if len(goals) == 1:
+        return found[0]
+    ways = BesideWeights(lives, wish.data).ways(goals, [own.outcome.steps for own in found])
+    best = best_of(ways)
+    at = ways.index(best)
+    for live, own in zip(lives, runs[at]):
+        live.go_as(own)
+    least = None if has_disks(wish) else least_to_weight(lives, wanted_of(lives, wish), wish.data)
+    return replace(found[at], outcome=replace(found[at].outcome, chosen=Chosen(best, ways, least)))
+
+
+def cut(measures: Measures, parts: list[list[PlanStep]], measure: Measure, wish: Wish) -> list[list[PlanStep]]:
+    """The first commands of a plan, where no more are asked for: fewer of a number, and more up to a ratio, where pools
+    might take less else than before the plan.
+    """
+    found = first_steps(parts, wish.most) if wish.until is None else until(parts, measure, wish.until)
+    steps, count = [step for part in parts for step in part], sum(map(len, found))
+    if wish.is_free or count == len(steps):
+        return found
+    kept = [at for at, fall in enumerate(measures.falls(steps)) if fall <= LESS]
+    if wish.until is None:
+        return kept_until(parts, max(at for at in kept if at <= count))
+    return kept_until(parts, min((at for at in kept if at >= count), default=len(steps)))
+
+
+def outcome_toward(lives: list[Live], wish: Wish, course: PlanCourse) -> PlanMade:
+    """What is told of plans over one another, toward one goal."""
     wanted = wanted_of(lives, wish)
-    for live in lives:
-        live.is_by_weight = wish.is_by_weight
-    course = best_course(lives, wanted, wish, tell)
     passes, rooms, measures = course.passes, course.rooms, course.passes[0].measures
     steps = sorted(course.steps, key=lambda step: group_key(step.group))
     made = as_one(passes, steps)
@@ -447,17 +542,30 @@ def planned_once(lives: list[Live], wish: Wish, tell: Callable[[str], None]) -> 
     least = least_of(measures, measures.pools.keys() - set(wanted) | made.refusals.keys())
     if wish.is_alone:
         alone = [own for part in batches(steps, wish.batch) for own in limited(part, wish.busy)]
-        return replace(outcome_of(measures, wanted, made, alone, taken_out, {}), least=least), measures, False
+        own = replace(outcome_of(measures, wanted, made, alone, taken_out, {}), least=least)
+        return PlanMade(own, course, False)
     order = order_of_steps(measures, steps, made.first, wish.nearfull)
     order.limit(wish.busy)
     parts = ordered_parts(order, wish.batch, wish.until is not None)
     measure = measure_of_steps(measures, steps, wish.nearfull)
     parts = even_parts(measures, order, parts, wish.batch) if order.left else parts
-    parts = first_steps(parts, wish.most) if wish.until is None else until(parts, measure, wish.until)
+    parts = cut(measures, parts, measure, wish)
     stopped = {**({} if rooms is None else rooms.stopped()), **order.stopped()}
     found = outcome_of(measures, wanted, made, parts, taken_out, stopped)
     found = replace(found, rest=course.rest, measure=measure, worth=worth_of(measure, found.steps), least=least)
-    return found, measures, bool(order.left) or course.is_stopped()
+    found = replace(found, falls=fall_of(measures, found.steps))
+    return PlanMade(found, course, bool(order.left) or course.is_stopped())
+
+
+def fall_of(measures: Measures, steps: list[PlanStep]) -> tuple[int, float] | None:
+    """After how many commands of some steps the pool that loses most may take least, and by which part less than before
+    them; None where none may take less than a thousandth, or it is not known.
+    """
+    if measures.aims is None:
+        return None
+    falls = measures.falls(steps)
+    most = max(range(len(falls)), key=falls.__getitem__)
+    return (command_count(steps[:most]), falls[most]) if falls[most] > LESS else None
 
 
 def pool_parts(

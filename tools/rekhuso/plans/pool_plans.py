@@ -14,7 +14,7 @@ from ..values import SLOTS
 from .loads import Laid, STEP_PARTS, counted_above, with_closed
 from .move_order import Deviations, moves_within
 from .pair_plans import PairPlanner
-from .rounds import Live, MOST_MOVES, laid_of
+from .rounds import Live, MOST_MOVES
 from .steps import appended_pairs
 
 # Half of what two OSDs must differ by for a move of such a plan, in 256ths of a group.
@@ -41,7 +41,7 @@ def loads_of(laid: Laid) -> dict[int, int]:
 
 def committed(live: Live, pool: Pool, most: int) -> PoolPlan:
     """Commits the plan of a pool with at most so many moves, which may be 0."""
-    laid, by_pairs = laid_of(live, pool, 0, dict(live.before.counts_in[pool["id"]])), PairPlanner()
+    laid, by_pairs = live.lay(pool, 0, dict(live.before.counts_in[pool["id"]])), PairPlanner()
     if by_pairs.blocks(live, pool):
         above = counted_above(laid, loads_of(laid))
         return PoolPlan(by_pairs.plan(live, pool, above, 2 * NEAREST * STEP_PARTS, most), "", None, None)
@@ -62,7 +62,7 @@ def shortest_plans(live: Live, pools: list[Pool], deviation: Fraction, most: int
     live.take_back([group for plan in plans.values() for group in plan])
     for pool in pools:
         number, whole = pool["id"], wholes[pool["id"]]
-        laid = laid_of(live, pool, 0, dict(live.before.counts_in[number]))
+        laid = live.lay(pool, 0, dict(live.before.counts_in[number]))
         deviations = Deviations(live.before.weights_for(pool), laid.counts, loads_of(laid))
         deviations.passed = laid.closed
         wanted = moves_within(deviations, plans[number], deviation)

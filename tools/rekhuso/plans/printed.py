@@ -15,9 +15,9 @@ from enum import Enum
 from itertools import chain
 
 from ..cluster.names import set_words
-from ..faults import Fault
+from ..faults import Misjudged
 from ..program.maps import Map, Program, group_key
-from ..progress import doing
+from ..running import doing
 from ..values import SLOTS
 from .bounds import Measure
 from .courses import Course, Play, excepted_in
@@ -87,7 +87,7 @@ class Printed:
                 continue
             is_erasure = course.is_erasure(group)
             if group not in last and places != was:
-                raise Fault(f"{group} moves, and no command names it: {DEFECT}")
+                raise Misjudged(f"{group} moves, and no command names it: {DEFECT}")
             goal = list(wanted[group]) if group in wanted else self.as_up(was, is_erasure)
             if self.as_up(places, is_erasure) != goal:
                 words = f"{set_words(places)} and not {set_words(goal)}"

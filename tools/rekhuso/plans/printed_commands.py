@@ -6,7 +6,7 @@ import re
 from collections.abc import Iterable
 from dataclasses import dataclass
 
-from ..faults import Fault
+from ..faults import Misjudged
 from ..program.maps import Change, Entry
 from ..values import SLOTS
 from .guards import is_guard
@@ -18,9 +18,9 @@ KEYS = {"pg-upmap": "upmap", "pg-upmap-items": "items"}
 DEFECT = "a defect of the tools; nothing is put out"
 
 
-def defect(line: str, why: str) -> Fault:
+def defect(line: str, why: str) -> Misjudged:
     """That a printed line is not what it should be."""
-    return Fault(f"{line}: {why}: {DEFECT}")
+    return Misjudged(f"{line}: {why}: {DEFECT}")
 
 
 @dataclass(frozen=True, **SLOTS)

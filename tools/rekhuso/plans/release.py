@@ -20,7 +20,7 @@ from ..cluster.names import set_words
 from ..cluster.pool_data import Data
 from ..cluster.unrest import Unrest, unrest_of
 from ..cluster.view import ClusterView, view_of_cluster
-from ..faults import Fault
+from ..faults import Misjudged
 from ..program.answers import Up
 from ..program.maps import Entry, Exceptions, Pool, Program, entries_of, excepted_groups, group_key, with_all_up
 from ..values import SLOTS
@@ -111,7 +111,7 @@ def check_end(ups: Mapping[str, Up], wanted: Mapping[str, list[int | None]]) -> 
     unlike = [group for group, places in wanted.items() if ups[group].places != places]
     if unlike:
         first = unlike[0]
-        raise Fault(
+        raise Misjudged(
             f"{counted(len(unlike), 'group')} would end elsewhere, the first {first}: "
             f"{set_words(ups[first].places)} and "
             f"not {set_words(wanted[first])}: a defect of the tools; nothing is put out"

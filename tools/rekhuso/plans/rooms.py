@@ -172,4 +172,4 @@ def take_back_unfit(planner: Planner, aims: ByteAims, rooms: Rooms) -> None:
         if own:
             live.take_back(own)
             for group in own:
-                planner.come_back(live, group, left[group].now)
+                planner.come_back(live, group, left[group].now, left[group].was)

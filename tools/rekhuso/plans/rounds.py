@@ -14,7 +14,7 @@ from contextlib import contextmanager
 from typing import NamedTuple, Protocol
 
 from ..cluster.cleanup import barred, group_fault, pool_of_group
-from ..cluster.evenness import standing_in
+from ..cluster.evenness import Spread, standing_in
 from ..cluster.judge import Judge, Reason, present_of
 from ..cluster.names import Names
 from ..cluster.pool_data import Data
@@ -23,6 +23,7 @@ from ..faults import Refused
 from ..program.maps import Exceptions, Map, Pool, entries_of, rule_for
 from ..program.session import Session
 from .at_rest import AtRest
+from .shared_by import SharedBy
 from .loads import (
     GROUP_PARTS,
     Laid,
@@ -40,8 +41,9 @@ from .steps import changed_groups, in_old_order
 
 # The most moves of one plan of the program.
 MOST_MOVES = 1024
-# How many rounds there are at most, and how many moves are tried from the fullest OSD.
-MOST_ROUNDS, TRIED = 12, 64
+# How many rounds there are at most, how many moves are tried from the fullest OSD, and by which ratio it is to get less
+# full by moves to OSDs that differ by little.
+MOST_ROUNDS, TRIED, LOWER = 12, 64, 1.02
 # How many OSDs, those with most and those with fewest groups, are looked at first for whether a pool may have a move.
 ENDS = 64
 # Up to how many pools, times the OSDs, the fullest OSD is lowered once all pools are at rest.
@@ -55,7 +57,7 @@ VAST, GAP = 1 << 28, 3 << 27
 
 class Live:
     """A map while its pools are planned: its exceptions as Ceph has them, names, how a monitor reads its rules, the
-    session that goes on, and what was where before.
+    session that goes on, and what was where before. What of it changes its own methods change alone.
     """
 
     def __init__(
@@ -68,10 +70,13 @@ class Live:
         self.totals = dict(self.before.counts)
         self.present = present_of(value)
         self.barred = barred(judge, value, self.before.sets)
-        self.is_by_weight, self.freed = False, set[int]()
+        self.goal, self.takes_all, self.freed = SharedBy.REACH, False, set[int]()
+        # Of OSDs of next to no weight none takes groups, unless all are to.
         self.closed = closed_in(self.before.reached)
         self.shares: dict[tuple[int, ...], tuple[dict[int, int], dict[int, int], frozenset[int]]] = {}
         self.alone: dict[int, str] = {}
+        self.joint_trees: Mapping[int, list[dict[int, int]]] = {}
+        self.joint: dict[int, dict[int, float]] = {}
 
     def leave_alone(self, pools: Mapping[int, str]) -> None:
         """Leaves some pools alone, each for its reason: no plan moves a group of theirs."""
@@ -88,12 +93,62 @@ class Live:
 
     def goal_trees(self, pool: Pool) -> list[dict[int, int]]:
         """By what the OSDs of a pool share its places, tree by tree: what its rule can give them, or their weights."""
-        return self.before.trees_for(pool) if self.is_by_weight else self.before.reach_trees(pool)
+        if self.goal is SharedBy.JOINT and pool["id"] in self.joint_trees:
+            return self.joint_trees[pool["id"]]
+        return self.before.trees_for(pool) if self.goal is SharedBy.WEIGHT else self.before.reach_trees(pool)
 
     @property
     def goals(self) -> dict[int, dict[int, float]]:
         """How many places of each pool the OSDs are to have."""
-        return self.before.shares_by if self.is_by_weight else self.before.reach_by
+        if self.goal is SharedBy.JOINT:
+            return self.joint
+        return self.before.shares_by if self.goal is SharedBy.WEIGHT else self.before.reach_by
+
+    def lay_joint(self, trees: Mapping[int, list[dict[int, int]]]) -> None:
+        """Takes what the rules can give OSDs of all pools together, of some pools."""
+        self.joint_trees = trees
+        self.before.keep(tree for own in trees.values() for tree in own)
+        own = {number: self.before.shared(self.pools[number], found) for number, found in trees.items()}
+        self.joint = {**self.before.reach_by, **own}
+
+    def go_toward(self, goal: SharedBy, takes_all: bool) -> None:
+        """Goes by other shares; all OSDs take groups if they are to, also those of next to no weight."""
+        self.goal, self.takes_all = goal, takes_all
+
+    def go_as(self, other: Live) -> None:
+        """Goes by the shares by which another does, of the same map as it lies."""
+        self.goal, self.joint, self.joint_trees = other.goal, other.joint, other.joint_trees
+
+    def after(self, value: Map, kept: Exceptions, before: Shares) -> Live:
+        """The same with other exceptions, by which groups lie elsewhere: it goes by the same shares, and leaves the
+        same pools alone.
+        """
+        found = Live(value, kept, self.names, self.judge, self.session, before)
+        found.go_toward(self.goal, self.takes_all)
+        found.leave_alone(self.alone)
+        return found
+
+    def lay(self, pool: Pool, place: int, counts: dict[int, int]) -> Laid:
+        """A pool as it lies, whose places each hold so much. Pools of one rule that are as large have the same
+        shares.
+        """
+        trees, goals = self.before.trees_for(pool), self.goal_trees(pool)
+        key = pool["rule"], pool["size"], *map(id, goals), *places_in(goals, counts), *places_in(trees, counts)
+        if key not in self.shares:
+            shares = shares_of(goals, counts)
+            closed = frozenset[int]() if self.takes_all else self.closed.intersection(shares)
+            self.shares[key] = shares, {} if goals == trees else offsets(shares_of(trees, counts), shares), closed
+        shares, offset, closed = self.shares[key]
+        return Laid(place, shares, counts, offset, closed)
+
+    def count(self, moved: Mapping[int, int]) -> None:
+        """Counts groups of all pools more that OSDs have."""
+        for osd, groups in moved.items():
+            self.totals[osd] = self.totals.get(osd, 0) + groups
+
+    def is_by_weight(self) -> bool:
+        """Whether the rules can give OSDs what they weigh."""
+        return self.before.shares_by == self.before.reach_by
 
     def changed(self) -> list[str]:
         """The groups that have other pairs now."""
@@ -124,9 +179,10 @@ class Live:
                 self.freed.add(pool)
         return found
 
-    def take_back(self, groups: list[str]) -> None:
-        """Gives some groups the pairs that they had before, where they have others."""
-        before, now = (dict(entries_of(value, "pg_upmap_items")) for value in (self.value, self.session.dump()))
+    def take_back(self, groups: list[str], value: Map | None = None) -> None:
+        """Gives some groups the pairs that they had before, or in another state, where they have others."""
+        states = self.value if value is None else value, self.session.dump()
+        before, now = (dict(entries_of(own, "pg_upmap_items")) for own in states)
         gone = [group for group in groups if group in now and group not in before]
         come = [[group, before[group]] for group in groups if group in before and now.get(group) != before[group]]
         if gone or come:
@@ -160,8 +216,7 @@ class Live:
             counts = self.session.counts(laid.shares)
             found = {osd: count - self.totals.get(osd, 0) for osd, count in counts.items()}
         found = {osd: groups for osd, groups in found.items() if groups}
-        for osd, groups in found.items():
-            self.totals[osd] = self.totals.get(osd, 0) + groups
+        self.count(found)
         return found
 
 
@@ -188,18 +243,6 @@ def barred_words(why: Reason) -> str:
 def pools_of(groups: Iterable[str]) -> set[int]:
     """The pools of some groups."""
     return {int(group.split(".")[0]) for group in groups}
-
-
-def laid_of(live: Live, pool: Pool, place: int, counts: dict[int, int]) -> Laid:
-    """A pool as it lies, whose places each hold so much. Pools of one rule that are as large have the same shares."""
-    trees, goals = live.before.trees_for(pool), live.goal_trees(pool)
-    key = pool["rule"], pool["size"], *places_in(goals, counts), *places_in(trees, counts)
-    if key not in live.shares:
-        shares = shares_of(goals, counts)
-        closed = frozenset[int]() if live.is_by_weight else live.closed.intersection(shares)
-        live.shares[key] = shares, {} if goals == trees else offsets(shares_of(trees, counts), shares), closed
-    shares, offset, closed = live.shares[key]
-    return Laid(place, shares, counts, offset, closed)
 
 
 class ByPairs(Protocol):
@@ -235,12 +278,13 @@ class Planner:
         self.laid = {}
         for number, live in self.live_of.items():
             counts = dict(live.before.counts_in[number])
-            self.laid[number] = laid_of(live, pools[number], of_place[number], counts)
+            self.laid[number] = live.lay(pools[number], of_place[number], counts)
         self.order = order_of(wanted, places, held)
         self.refusals = {number: why for live in lives for number, why in live.refusals().items() if number in wanted}
         self.loads: Loads
         self.is_at_rest = False
         self.by_pairs: ByPairs | None = None
+        self.is_one_of_several = False
         self.left: dict[str, Reason] = {}
         self.hopeless: set[int] = set()
         self.at_rest = AtRest(2 * half * STEP_PARTS)
@@ -330,7 +374,7 @@ class Planner:
                 self.at_rest.drop(pools_of(groups))
                 found |= pools_of(groups)
                 for group in groups:
-                    self.come_back(live, group, gone[group].places)
+                    self.come_back(live, group, gone[group].places, live.before.ups[group].places)
         return found
 
     def end(self) -> None:
@@ -340,13 +384,11 @@ class Planner:
             if own:
                 live.take_back(own)
 
-    def come_back(self, live: Live, group: str, places: list[int | None]) -> None:
-        """Counts a group where it was before, and no longer at these places."""
-        before = live.before.ups[group].places
+    def come_back(self, live: Live, group: str, places: Sequence[int | None], before: Sequence[int | None]) -> None:
+        """Counts a group at the places where it was before, and no longer at others."""
         moved = {osd: 1 for osd in before if osd is not None and osd not in places}
         moved.update({osd: -1 for osd in places if osd is not None and osd not in before})
-        for osd, groups in moved.items():
-            live.totals[osd] = live.totals.get(osd, 0) + groups
+        live.count(moved)
         self.loads.put(int(group.split(".")[0]), moved)
 
     def play(self, tell: Callable[[str], None]) -> None:
@@ -369,37 +411,83 @@ class Planner:
 
     def lowered(self) -> int:
         """Moves from the OSD that is fullest over all pools, as long as there is one by which the cluster gains as much
-        as by any move: without data, and where that OSD is more than the deviation above its shares. How many there
-        are; none in a cluster of many pools and OSDs, where each look takes long.
+        as by any move: without data, and where that OSD is more than the deviation above its shares, or the plan is one
+        of several. How many there are; none in a cluster of many pools and OSDs, where each look takes long.
         """
         moves = 0
-        if len(self.order) * len(self.loads.groups) > SMALL_CLUSTER:
+        if len(self.order) * len(self.loads.groups) > SMALL_CLUSTER or any(own.place for own in self.laid.values()):
             return 0
-        while not any(own.place for own in self.laid.values()) and self.has_lowered():
+        while self.has_lowered(self.beside_shares(), self.apart_from):
             moves += 1
+        return moves + (self.lowered_by_ratio() if self.is_one_of_several else 0)
+
+    def lowered_by_ratio(self) -> int:
+        """The same of the OSD that is fullest to its weight, to OSDs that differ by little, but stay less full with a
+        place more: as often as the fullest gets less full by it. How many moves there are.
+        """
+        moves = 0
+        while (first := self.beside_weights().fullest()) > 0:
+            kept, own = [live.session.dump() for live in self.lives], 0
+            while self.beside_weights().fullest() > first / LOWER:
+                if not self.has_lowered(self.beside_weights(), self.less_full_than):
+                    for live, value in zip(self.lives, kept):
+                        self.restore(live, value)
+                    return moves
+                own += 1
+            moves += own
         return moves
 
-    def has_lowered(self) -> bool:
-        """Whether something has gone from the OSD that is fullest over all pools."""
-        groups, apart, wanted = self.loads.groups, 2 * self.half * STEP_PARTS, Counter[int]()
+    def beside_shares(self) -> Spread:
+        """By how much OSDs are above their shares over all pools, and these, in parts."""
+        wanted = Counter[int]()
         for own in self.laid.values():
             wanted.update(own.shares)
-        full = max(
-            (osd for osd in groups if wanted[osd]), key=lambda osd: (groups[osd] / wanted[osd], -osd), default=-1
-        )
-        if full < 0 or 2 * groups[full] <= apart:
-            return False
+        return Spread(self.loads.groups, wanted)
+
+    def beside_weights(self) -> Spread:
+        """What OSDs that take groups have over all pools, and what they weigh for, in parts."""
+        has, share = Counter(self.loads.groups), Counter[int]()
+        for own in self.laid.values():
+            has.update(own.shares)
+            share.update(own.shares)
+            share.update({osd: more * STEP_PARTS for osd, more in own.offset.items()})
+        closed = frozenset().union(*(own.closed for own in self.laid.values()))
+        return Spread(has, {osd: own for osd, own in share.items() if osd not in closed})
+
+    def apart_from(self, full: int, _: Spread) -> set[int]:
+        """The OSDs that have so much less than the fullest as two must differ by for a move."""
+        groups, apart = self.loads.groups, 2 * self.half * STEP_PARTS
+        return set() if 2 * groups[full] <= apart else {osd for osd in groups if groups[full] - groups[osd] > apart}
+
+    def less_full_than(self, full: int, spread: Spread) -> set[int]:
+        """The OSDs that are less full than the fullest with one place more."""
+        most = spread.ratio(full) / LOWER
+        return {osd for osd, own in spread.share.items() if own > 0 and spread.has[osd] + GROUP_PARTS <= most * own}
+
+    def has_lowered(self, spread: Spread, lower: Callable[[int, Spread], set[int]]) -> bool:
+        """Whether something has gone from the OSD that is fullest over all pools to one that is lower."""
+        full = max(spread.osds(), key=lambda osd: (spread.ratio(osd), -osd), default=-1)
+        low = set[int]() if full < 0 else lower(full, spread)
         found = []
-        for number in self.order:
+        for number in self.order if low else ():
             own = self.laid[number]
             if number in self.refusals or number in self.hopeless or not own.counts.get(full):
                 continue
             if self.live_of[number].has_one_block(self.live_of[number].pools[number]):
                 above = self.told(number).above
-                low = (osd for osd in above if osd not in own.closed and groups[full] - groups[osd] > apart)
-                found += [(above[osd] - above[full], number, osd) for osd in low if full in above]
+                free = (osd for osd in above if osd in low and osd not in own.closed)
+                found += [(above[osd] - above[full], number, osd) for osd in free if full in above]
         best = sorted(way for way in found if -way[0] > GROUP_PARTS)[:TRIED]
         return any(self.goes(number, full, osd) for _, number, osd in best)
+
+    def restore(self, live: Live, value: Map) -> None:
+        """Gives the groups of a map the pairs that they had in another of its states."""
+        groups = changed_groups(value, live.session.dump())
+        gone = live.session.ups(groups)
+        live.take_back(groups, value)
+        for group, up in live.session.ups(groups).items():
+            self.come_back(live, group, gone[group].places, up.places)
+        self.at_rest.drop(pools_of(groups))
 
     def goes(self, number: int, leaves: int, comes: int) -> bool:
         """Whether the lowest group of a pool has gone from an OSD to another that may."""

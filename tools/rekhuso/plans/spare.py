@@ -15,6 +15,7 @@ from heapq import heappop
 from ..cluster.evenness import Spread
 from .last_pass import FAR, NEAR
 from .loads import SUM_WEIGHT, WEIGHT
+from .max_avail import RoomGauge
 from .measures import Measures
 from .mend import Mender, ROUNDING, Squares
 from .steps import PlanStep
@@ -34,7 +35,8 @@ class Spare(Mender):
         for step in steps:
             self.data.take(step, 1)
             self.pools[step.pool].take(step, 1)
-        groups, data = (gauge.worst() for gauge in self.gauges)
+        groups, data = (gauge.worst() for gauge in self.gauges[:2])
+        self.rooms = [gauge for gauge in self.gauges if isinstance(gauge, RoomGauge)]
         self.most = [groups, min(max(data, 1 + NEAR), 1 + FAR)]
         self.rank(self.left)
 
@@ -46,7 +48,9 @@ class Spare(Mender):
 
     def may_go(self, step: PlanStep) -> bool:
         """Whether no OSD gets too full where a step is taken out, and nothing less even than before the plan."""
-        return step.group not in self.first and all(
+        if step.group in self.first or any(own.fills(step.leaves(), own.size(step)) for own in self.rooms):
+            return False
+        return all(
             gauge.squares + gauge.gain(step, -1) <= gauge.before * (1 + ROUNDING)
             and gauge.worst_of(step.leaves(), gauge.size(step)) <= most
             for gauge, most in zip(self.gauges, self.most)

@@ -92,6 +92,16 @@ def until(parts: list[list[PlanStep]], measure: Measure, ratio: float) -> list[l
     return found
 
 
+def kept_until(parts: list[list[PlanStep]], count: int) -> list[list[PlanStep]]:
+    """The first steps of some parts, so many."""
+    found = list[list[PlanStep]]()
+    for part in parts:
+        own = part[:count]
+        count -= len(own)
+        found += [own] if own else []
+    return found
+
+
 def worth_of(measure: Measure, steps: Sequence[PlanStep]) -> Worth | None:
     """What some steps are worth in their order; None where there is none."""
     if not steps:

@@ -15,6 +15,11 @@ PLACES, PRIMARY = re.compile(r"\[(?:(?:none|[0-9]+)(?:,(?:none|[0-9]+))*)?\]"), 
 SETS = re.compile(f"(?: {PLACES.pattern})*")
 SET = re.compile(f"{PLACES.pattern} (?:{PRIMARY.pattern})")
 POOL = re.compile(f"{PLACES.pattern}{SETS.pattern}")
+# Why a monitor takes all exceptions of a group away; a program of 0.2.0 tells none.
+CAUSE = re.compile(
+    "chooseleaf [0-9]+ [0-9]+ [0-9]+|choose [0-9]+ [0-9]+|(?:take [0-9]+|unreached) (?:none|[0-9]+)|out [0-9]+"
+    "|idle-set|set-length|idle-pairs"
+)
 # What is left of a set without its digits.
 COMMAS = re.compile(rb"\[,*\]")
 FORMS = {
@@ -24,7 +29,7 @@ FORMS = {
     "fups": POOL,
     "count": re.compile("[0-9]+"),
     "groups": re.compile(r"\[[0-9a-f.,]*\]"),
-    "fkept": re.compile("all|fewer|gone"),
+    "fkept": re.compile(f"all|fewer|gone(?: (?:{CAUSE.pattern}))?"),
 }
 
 

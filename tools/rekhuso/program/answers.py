@@ -40,10 +40,13 @@ class Moved(NamedTuple):
 
 
 class Left(NamedTuple):
-    """What Ceph's monitor would leave of a group's exceptions at an epoch: `all`, `fewer` or `gone`."""
+    """What Ceph's monitor would leave of a group's exceptions at an epoch: `all`, `fewer` or `gone`; and why where they
+    are gone, as the line `fkept` tells it: `out 3`.
+    """
 
     epoch: int
     what: str
+    why: str = ""
 
 
 def up_of(answer: str) -> Up:
@@ -88,8 +91,8 @@ def primary_of(places: list[int | None]) -> int | None:
 
 def left_of(answer: str) -> Left:
     """What an answer tells of a group's exceptions."""
-    _, epoch, _, what = answer.split(" ")
-    return Left(int(epoch), what)
+    _, epoch, _, what, *why = answer.split(" ")
+    return Left(int(epoch), what, " ".join(why))
 
 
 def balance_line(pool: int, most: int, apart: int = 256, carried: Mapping[int, int] | None = None) -> str:

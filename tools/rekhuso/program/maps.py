@@ -78,6 +78,22 @@ class Map(Exceptions):
     rules: list[Rule]
 
 
+class ChangeParts(TypedDict, total=False):
+    """What a change may have, each part by its key: OSDs and pools by their ids, groups by their texts."""
+
+    old_pools: list[int]
+    new_crush: Mapping[str, Any]
+    new_pools: list[Pool]
+    grow_pool: list[list[int]]
+    down: list[int]
+    up: list[int]
+    weight: list[list[int]]
+    old_upmap: list[str]
+    old_items: list[str]
+    new_upmap: list[Entry]
+    new_items: list[Entry]
+
+
 Altered = TypeVar("Altered", bound=Mapping[str, object])
 
 

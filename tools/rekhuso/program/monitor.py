@@ -18,7 +18,7 @@
     with Monitor(value, store="cluster.store") as monitor:
         monitor.change(down=[2])
 
-    with Monitor(store="cluster.store") as monitor:
+    with Monitor(store="cluster.store", by="alice", keep=1024) as monitor:
         monitor.found_epoch
 
 A map with a straw2 bucket, or with a rule that sets how leaves are sought, is read under `--stock`, and any other
@@ -49,7 +49,7 @@ from typing import IO, NoReturn
 
 from ..faults import Refused, Trouble, Unopened
 from ..files import text_of
-from ..progress import doing
+from ..running import doing
 from .maps import Map, Program, needs_stock, written
 from .process import Patience, Postponed, temporary, unblocked
 from .session import Session
@@ -71,6 +71,32 @@ def kept_in(store: str) -> list[str]:
             with open(store, "rb") as file:
                 return [] if ABOUT in file.read(PAGE) else ["--keep", MOST_KEPT]
     return []
+
+
+# The word that may stand beside each change of a run over a store.
+BY = re.compile("[!-~]{1,64}")
+
+
+def store_words(by: str | None, keep: int | None, is_wary: bool) -> list[str]:
+    """The options of a run over a store: the word beside its changes, how many changes its starts leave, and whether
+    each change is synced twice. ValueError for what the program does not take.
+    """
+    if by is not None and not BY.fullmatch(by):
+        raise ValueError("by: 1 to 64 characters of visible ASCII")
+    if keep is not None and not 0 <= keep <= int(MOST_KEPT):
+        raise ValueError(f"keep: 0 to {MOST_KEPT} changes")
+    found = [] if by is None else ["--by", by]
+    return found + ([] if keep is None else ["--keep", str(keep)]) + (["--wary"] if is_wary else [])
+
+
+def check_sources(has_map: bool, has_store: bool, is_lost: bool, has_words: bool) -> None:
+    """A ValueError where there is neither a map nor a store, or something that goes with a store stands without."""
+    if not has_map and not has_store:
+        raise ValueError("a map or a store")
+    if is_lost and (has_map or not has_store):
+        raise ValueError("without_log goes with a store alone, and with no map")
+    if has_words and not has_store:
+        raise ValueError("by, keep and wary go with a store alone")
 
 
 def map_text(value: Map | str | os.PathLike[str]) -> str:
@@ -98,7 +124,8 @@ class Monitor(Session):
     changes may have straw2 buckets; where nothing is said, the map tells it. With the path of a store, a run of the
     program that keeps one: it begins the store with the map, or without a map opens it; where its log is missing, only
     with the epoch of `without_log`, which `Unopened` tells. `found_epoch` is then the epoch of the map that it began
-    with, else None.
+    with, else None. With a store alone, `by` is a word that stands beside each change of the run, `keep` how many
+    changes starts leave from now on, and `wary` has each change synced twice.
     """
 
     def __init__(
@@ -111,18 +138,21 @@ class Monitor(Session):
         stock: bool | None = None,
         store: str | os.PathLike[str] | None = None,
         without_log: int | None = None,
+        *,
+        by: str | None = None,
+        keep: int | None = None,
+        wary: bool = False,
     ) -> None:
         """Starts the program (that of the repository, or of the path, where none is given) with 1 to 64 sessions and
         a journal of so many changes, 1 to 65,536. ValueError for another number of sessions, where there is neither a
-        map nor a store, and for a `without_log` that opens none; a fault where there is no program or it does not
+        map nor a store, for a `without_log` that opens none, and for options of a store that are wrong or go with none;
+        a fault where there is no program or it does not
         start, `Refused` where it refuses the map, and `Unopened` where it does not begin or open the store.
         """
         if not 1 <= sessions <= 64:
             raise ValueError("1 to 64 sessions")
-        if value is None and store is None:
-            raise ValueError("a map or a store")
-        if without_log is not None and (value is not None or store is None):
-            raise ValueError("without_log goes with a store alone, and with no map")
+        self._options, self._is_kept = store_words(by, keep, wary), keep is not None
+        check_sources(value is not None, store is not None, without_log is not None, bool(self._options))
         self._lost = [] if without_log is None else ["--without-log", str(without_log)]
         self.program = program_of(program, "osdmapd" if store is None else "osdmapstore")
         text = None if value is None else map_text(value)
@@ -148,6 +178,12 @@ class Monitor(Session):
                 self.close()
                 raise
 
+    def __repr__(self) -> str:
+        """Which run it is: of which program, over which store if there is one, and whether it is closed."""
+        over = "a map" if self._store is None else repr(self._store)
+        profile, state = ", stock" if self.is_stock else "", ", closed" if self._is_closed else ""
+        return f"<Monitor of {self.program} over {over}{profile}{state}>"
+
     def _words(self, text: str | None, journal: int, names: list[tuple[str, str]]) -> list[str]:
         """The words of the program's command, behind its name; a map is put into its folder."""
         if text is not None:
@@ -155,8 +191,9 @@ class Monitor(Session):
                 pathlib.Path(self._folder.name, "map.json").write_text(text, encoding="utf-8")
         files = ["map.json"]
         if self._store is not None:
-            own = [*kept_in(self._store), *self._lost]
+            own = [*([] if self._is_kept else kept_in(self._store)), *self._lost]
             files = [*own, self._store] if text is None else ["--begin", "map.json", self._store]
+            files = [*self._options, *files]
         sessions = [lines for lines, _ in names] + [word for _, answers in names for word in ("--to", answers)]
         return [*(["--stock"] if self.is_stock else []), "--journal", str(journal), *files, *(sessions or ["-"])]
 

@@ -15,6 +15,7 @@ from dataclasses import dataclass
 from types import FrameType
 
 from ..faults import Trouble
+from ..running import tell_once
 from ..values import SLOTS
 from .maps import Program
 
@@ -25,17 +26,22 @@ VARIABLE = "REKHUSO_PROGRAM"
 # The programs, the options that name them, and the targets of the repository that prove and build them.
 PROGRAM_OPTIONS = {"osdmapd": "--program", "osdmapstore": "--store-program"}
 TARGETS = {"osdmapd": "make run", "osdmapstore": "make store"}
+# What stands behind a program's name in that of the one that `make checked` builds.
+CHECKED = ".checked"
 
 
 def built(name: str, beside: Program = None) -> pathlib.Path:
     """A program where none is named: that beside another, if one is given or the variable names one, else that of the
-    repository in which the tools stand, else the one of this name on the path. A fault that tells where it was looked
-    for.
+    repository in which the tools stand, else the one of this name on the path, else that of the repository that has
+    checks in place of proofs, which is told. A fault that tells where it was looked for.
     """
     crate, beside = CRATES / name, beside or os.environ.get(VARIABLE)
     near = [pathlib.Path(beside).resolve().parent / name] if beside else []
     own = [crate / "out" / name] if crate.is_dir() else []
     found = next((str(path) for path in near + own if path.exists()), None) or shutil.which(name)
+    if found is None and own and (checked := own[0].with_name(name + CHECKED)).exists():
+        tell_once(f"{checked}: checks in place of proofs: nothing of it is proved; `{TARGETS[name]}` proves one")
+        return checked
     if found is None:
         places = [f"{path} is not there" for path in near + own] + [
             f"no folder of PATH has {name} ({os.environ.get('PATH', '')})"

@@ -22,7 +22,7 @@ from dataclasses import dataclass
 from typing import IO
 
 from ..faults import Refused, Trouble, Unopened
-from ..progress import doing
+from ..running import doing
 from ..values import SLOTS
 from ..words import counted
 from .maps import Program
@@ -58,7 +58,7 @@ NOTE, NOTED_BY = re.compile("life=([+-]?[0-9]+),made=([0-9]+)(?:,by=([^ ]*))?"),
 # What only the disk of the copy says, as nothing else is written.
 FULL = (errno.ENOSPC, errno.EDQUOT)
 # How many changes a run of the program takes.
-MOST = 65536
+RUN_MOST = 65536
 
 # What is told of a file that is not read, as the program tells it.
 MISSING = "there is no store at this path"
@@ -352,8 +352,8 @@ def map_at(journal: StoredJournal, epoch: int, program: Program) -> Iterator[Mon
     rows, monitor = journal.changes[: epoch - journal.epoch], first_monitor(journal, program)
     while True:
         with monitor:
-            make_changes(journal.path, monitor, rows[:MOST])
-            rows = rows[MOST:]
+            make_changes(journal.path, monitor, rows[:RUN_MOST])
+            rows = rows[RUN_MOST:]
             if not rows:
                 yield monitor
                 return

@@ -10,6 +10,7 @@ import subprocess
 import time
 
 from ..faults import Trouble
+from ..files import stamp_of
 from ..version import VERSION
 from .maps import Program
 from .process import Postponed, chosen
@@ -23,13 +24,15 @@ def program_of(program: Program, name: str) -> pathlib.Path:
     none, or is not of the version of these tools.
     """
     found = chosen(program, name)
-    check_version(str(found), name)
+    check_version(str(found), name, stamp_of(str(found)))
     return found
 
 
 @functools.lru_cache(maxsize=None)
-def check_version(path: str, name: str) -> None:
-    """A fault where a program is not the one of a name and of the version of these tools. It is asked once."""
+def check_version(path: str, name: str, stamp: object) -> None:
+    """A fault where a program is not the one of a name and of the version of these tools. It is asked once, as long as
+    it is the same file.
+    """
     wanted, told = f"{name} {VERSION}", version_line(path)
     if told != wanted:
         raise Trouble(f"{path}: another program: --version tells {told[:40]!r}, and these tools want {wanted!r}")

@@ -10,6 +10,8 @@ from .matches import unmatched
 from .pools import osd_reasons, pool_reasons
 from .rules import rule_reasons, tunable_reasons
 
+__all__ = ["reasons"]
+
 
 def reasons(cluster: Cluster, is_unmatched: bool, is_one: bool = True) -> list[Against]:
     """All that keeps a cluster from being a map, or where `is_one` is false several maps, each by its code; what
