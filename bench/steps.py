@@ -42,6 +42,13 @@ def a_change(runs: Folder, stated: Any, parts: Any, count: Any = 60) -> Any:
     return (instructions(good) - instructions(runs.words(stated, changes(parts, count, STALE)))) / count
 
 
+def a_whole_change(runs: Folder, stated: Any, few: Any = 200, many: Any = 1_200) -> Any:
+    """The instructions of a line that sets an OSD down or up, read, made and answered. The goal is 7,500."""
+    lines = [changes(STATES, count, EPOCH) for count in (few, many)]
+    spent = [instructions(runs.words(stated, text)) for text in lines]
+    return (spent[1] - spent[0]) / (many - few)
+
+
 def single_rows(runs: Folder) -> Iterator[Any]:
     """Each thing with what it costs over one uniform bucket of 64 OSDs, and over 1,024 OSDs in three levels."""
     small, large, tiny = ([runs.map(shape("uniform", groups)) for shape in SHAPES] for groups in (FEW, MANY, 32))
@@ -59,6 +66,7 @@ def single_rows(runs: Folder) -> Iterator[Any]:
         ("`groups`", "groups 7\n"),
     ):
         yield row(f"a line {name}", lambda: [a_line(runs, stated, line) for stated in large])
+    yield row("a line `change`, whole", lambda: [a_whole_change(runs, stated) for stated in large])
     yield row("one OSD down or up", lambda: [a_change(runs, stated, STATES) for stated in large])
     yield row("one pair of a group", lambda: [a_change(runs, stated, moving(runs, stated)) for stated in large])
     yield row(

@@ -103,7 +103,7 @@ class Cluster:
         if text is not None:
             return [json.loads(text)]
         maps = pathlib.Path(self.runs.folder, f"maps-{self.name}")
-        done, _ = ran(words(self.runs, "import", *map(str, given), "--out", str(maps)))
+        done, _ = ran(words(self.runs, "import", *map(str, given), "--to", str(maps)))
         return [] if done is None else [json.loads(path.read_text()) for path in sorted(maps.iterdir())]
 
     def trees_of(self, value: Any, pool: Any) -> list[Any]:

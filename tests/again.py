@@ -232,7 +232,7 @@ class PlansEnd(StockCase):
                 output, error = self.ran("plan", *files, *more)
                 if len(told) == 1:
                     fullest = self.json("plan", *files, *more)["cluster"]["after"]["bytes"]["fullest"]["ratio"]
-                    self.assertLessEqual(fullest, 1.06, name)
+                    self.assertLessEqual(fullest, 1.07, name)
                 self.assertIn(told[-1], (-1, len(commands(output))), (name, told))
                 found = re.search(r"a plan over this one begins with (\d+) command", error)
                 told.append(int(found[1]) if found else 0)
@@ -256,13 +256,13 @@ class PlansEnd(StockCase):
             count = len(own["commands"])
             self.assertEqual(own["commands"], whole["commands"][:count])
             self.assertLessEqual(own["cluster"]["after"]["groups"]["fullest"]["ratio"], ratio)
-            before = self.json("plan", *files, "--max", count - 1)
+            before = self.json("plan", *files, "--first", count - 1)
             self.assertGreater(before["cluster"]["after"]["groups"]["fullest"]["ratio"], ratio)
         worth, before, after = whole["worth"], *(whole["cluster"][when]["groups"] for when in ("before", "after"))
         self.assertEqual(worth["fullest"][0], [0, before["fullest"]["ratio"]])
         self.assertEqual(worth["fullest"][-1], [whole["moving"]["places"], after["fullest"]["ratio"]])
         self.assertLessEqual(whole["cluster"]["least"], after["fullest"]["ratio"])
-        first = self.json("plan", *files, "--max", worth["first"]["commands"])
+        first = self.json("plan", *files, "--first", worth["first"]["commands"])
         self.assertEqual(first["cluster"]["after"]["groups"]["fullest"]["ratio"], worth["first"]["fullest"])
 
     def test_least(self) -> None:

@@ -6,6 +6,7 @@ from __future__ import annotations
 import json
 import pathlib
 from collections import Counter
+from collections.abc import Iterator
 
 from rekhuso.plans.guards import is_guard
 
@@ -119,6 +120,26 @@ class CarriedPlans(StockCase):
         self.assertEqual([osd["weight"] for osd in cluster.dump["osds"] if osd["osd"] == 7], [0])
         self.assertEqual(len(seen), told["moving"]["groups"])
 
+    def test_counts(self) -> None:
+        """Before any command of a drain nothing of it is done, and all its groups are left; behind the script that
+        begins it all are left still, and those that it holds for good are done."""
+        own = STOCK[BUILT]
+        cluster = Cluster(self, own)
+        drain = self.tools.put("drain.json", self.output("drain", *cluster.files(), "osd.7", "--json"))
+        value = json.loads(drain.read_text())
+        moving = value["moving"]["groups"]
+        named = {line.split(" ")[3] for line in value["begin"]["commands"]}
+        sent = {line.split(" ")[3] for part in value["parts"] for line in part["commands"]}
+        words = "next", *cluster.files(), drain, "--pgs", cluster.pgs(), "--json"
+        told = json.loads(self.tools.run(*words)[1])
+        self.assertEqual((told["done"], told["under_way"]["groups"], told["left"]["groups"]), (0, 0, moving))
+        cluster.give(value["begin"]["change"] + value["begin"]["commands"])
+        words = "next", *cluster.files(), drain, "--pgs", cluster.pgs(), "--json"
+        told = json.loads(self.tools.run(*words)[1])
+        held = (len(named - sent), 0, moving)
+        self.assertEqual((told["done"], told["under_way"]["groups"], told["left"]["groups"]), held)
+        self.assertGreater(moving, 9)
+
     def test_plan(self) -> None:
         """A plan by its JSON without --most: all its commands at once, then nothing until the groups have moved; the
         bytes that are left are those of the places."""
@@ -175,7 +196,8 @@ class CarriedPlans(StockCase):
 
     def test_guards(self) -> None:
         """What is put out asks, before anything is given, whether the cluster is the one of the dumps and has their
-        CRUSH map and groups; a stage has the guards of its script. --no-guard leaves them out."""
+        CRUSH map and groups; so does a stage, in place of the guards of its script. --no-guard leaves them
+        out."""
         own = copied(STOCK[BUILT])
         own["osd_dump"].update(fsid="3360e166-03f7-4c83-ab03-2704d1bb31a8", crush_version=61)
         cluster = Cluster(self, own)
@@ -186,12 +208,14 @@ class CarriedPlans(StockCase):
         for given in (plan, "plan", drain):
             words = ["next", *files, given, "--pgs", pgs]
             lines = self.tools.run(*words)[1].splitlines()
-            asked = [line for line in lines if is_guard(line)]
+            first = next(at for at, line in enumerate(lines) if line.startswith("ceph "))
+            asked = [line for line in lines[:first] if is_guard(line)]
             for part in (f"^fsid {cluster.dump['fsid']}$", "^crush_version 61$", "^pool 2 "):
                 self.assertEqual(sum(part in line for line in asked), 1, (given, part))
             self.assertEqual(lines[lines.index("set -e") + 1 :][: len(asked)], asked)
             bare = self.tools.run(*words, "--no-guard")[1].splitlines()
-            self.assertEqual(bare, lines if given == "plan" else [line for line in lines if line not in asked])
+            above = [line for line in lines[:first] if line not in asked]
+            self.assertEqual(bare, [*above, *lines[first:]])
 
     def test_page(self) -> None:
         """The page of `report --next` tells what `next` does of a plan amid its way: what is done, under way and left,
@@ -214,7 +238,9 @@ class CarriedPlans(StockCase):
             self.assertIn(f"<p>{line}</p>", page)
         for osd in own["osds"]:
             cells = (f"osd.{osd['id']}", osd["under_way"], osd["left"], osd["to_go"])
-            self.assertIn(f"<tr>{''.join(f'<td>{cell}</td>' for cell in cells)}</tr>", page)
+            first, *rest = cells
+            row = f'<tr><th scope="row">{first}</th>' + "".join(f"<td>{cell}</td>" for cell in rest)
+            self.assertIn(f"{row}</tr>", page)
         self.assertNotIn("carried out", self.output("report", *cluster.files()))
 
     def test_page_words(self) -> None:
@@ -293,10 +319,19 @@ class BadPlans(StockCase):
         for own in out["osds"]:
             own["weight"] = 0 if own["osd"] == osd else own["weight"]
         light = self.tools.put("light", reweighted(cluster.crush, {osd: 0.0001}))
-        for first, second, why in ((self.tools.put("out", out), files[1], "out"), (files[0], light, "drained")):
-            _, output, error = self.tools.run("next", first, second, plan, "--pgs", pgs)
+        # A plan of older tools does not tell for which CRUSH map it was made.
+        told = json.loads(plan.read_text())
+        old = self.tools.put("old.json", {key: own for key, own in told.items() if key != "crush_map"})
+        for first, second, own, why in (
+            (self.tools.put("out", out), files[1], plan, "out"),
+            (files[0], light, old, "drained"),
+        ):
+            _, output, error = self.tools.run("next", first, second, own, "--pgs", pgs)
             self.assertIn(f"left out: {lines[0]}: osd.{osd} is {why}", error)
             self.assertNotIn(lines[0], output.splitlines())
+        self.is_told(
+            self.tools.run("next", files[0], light, plan, "--pgs", pgs), 1, "for another CRUSH map", "a drained OSD"
+        )
         short = copied(cluster.dump)
         short["pools"][-1]["pg_num"] = short["pools"][-1]["pg_placement_num"] = 8
         stats = json.loads(pgs.read_text())["pg_map"]["pg_stats"]
@@ -307,6 +342,81 @@ class BadPlans(StockCase):
         self.assertIn("the cluster has changed: ", error)
         down = copied(cluster.dump)
         down["osds"][0]["up"] = 0
-        _, error = self.ran("next", self.tools.put("d", down), files[1], plan, "--pgs", pgs, status=1)
+        _, error = self.ran("next", self.tools.put("d", down), files[1], plan, "--pgs", pgs, status=11)
         self.assertIn("an outage: 1 OSD is down", error)
         self.assertIn("no command is given", error)
+
+
+class OtherClusters(StockCase):
+    """Plans that are of another cluster, or for another CRUSH map, in each of their forms."""
+
+    FSID, OTHER = "3360e166-03f7-4c83-ab03-2704d1bb31a8", "99990000-03f7-4c83-ab03-2704d1bb31a8"
+
+    def setUp(self) -> None:
+        super().setUp()
+        own = copied(STOCK[BUILT])
+        own["osd_dump"].update(fsid=self.FSID, crush_version=61)
+        self.cluster = Cluster(self, own)
+        files = self.cluster.files()
+        self.output("plan", *files, "--batch", 8, "--to", self.tools.folder / "plans")
+        self.output("drain", *files, "osd.7", "--batch", 20, "--to", self.tools.folder / "drains")
+        script = self.tools.put("plan.sh", self.output("plan", *files))
+        old = "".join(line for line in script.read_text().splitlines(True) if not line.startswith("# "))
+        self.forms = {
+            "script": script,
+            "folder": self.tools.folder / "plans",
+            "drain": self.tools.folder / "drains",
+            "plan as JSON": self.tools.put("plan.json", self.output("plan", *files, "--json")),
+            "drain as JSON": self.tools.put("drain.json", self.output("drain", *files, "osd.7", "--json")),
+            "a script of older tools": self.tools.put("old.sh", old),
+        }
+        self.pgs = self.cluster.pgs()
+
+    def asked(self, dump: Json, crush: Json, plan: object) -> Iterator[tuple[int, str, str]]:
+        """What `next` ends with, and puts out and tells, of a plan over dumps and over a report."""
+        files = self.tools.put("now-osd", dump), self.tools.put("now-crush", crush)
+        yield self.tools.run("next", *files, plan, "--pgs", self.pgs)
+        yield self.tools.run("next", "--report", self.tools.put("now", {"osdmap": dump, "crushmap": crush}), plan)
+
+    def test_fsid(self) -> None:
+        """A plan of another cluster is told by one line with status 1, whatever guards are asked for, and in each form
+        that a plan has; that of the cluster itself has guards of its own fsid."""
+        other = dict(self.cluster.dump, fsid=self.OTHER)
+        for name, plan in self.forms.items():
+            for found in self.asked(other, self.cluster.crush, plan):
+                with self.subTest(name=name):
+                    told = f"of another cluster: its fsid is {self.FSID}, and that of the cluster {self.OTHER}"
+                    self.is_told(found, 1, told, name)
+            status, text, error = next(self.asked(self.cluster.dump, self.cluster.crush, plan))
+            self.assertEqual((status, text.count(f"'^fsid {self.FSID}$'")), (OUT, 1), error)
+
+    def test_crush_map(self) -> None:
+        """So is a plan for another CRUSH map, as by a weight, also of a cluster that tells no fsid; a script of older
+        tools does not tell for which it is."""
+        heavier = reweighted(self.cluster.crush, {3: 7.5})
+        nameless = {key: own for key, own in self.cluster.dump.items() if key != "fsid"}
+        for name, plan in self.forms.items():
+            for dump in (self.cluster.dump, nameless):
+                for found in self.asked(dump, heavier, plan):
+                    with self.subTest(name=name):
+                        if name.endswith("older tools"):
+                            self.assertEqual(found[0], OUT, found[2])
+                        else:
+                            self.is_told(found, 1, "for another CRUSH map than the cluster has", name)
+
+    def test_no_fsid(self) -> None:
+        """Where the dumps tell no fsid, what is put out asks for that of the plan all the same."""
+        nameless = {key: own for key, own in self.cluster.dump.items() if key != "fsid"}
+        for name, plan in self.forms.items():
+            with self.subTest(name=name):
+                status, text, error = next(self.asked(nameless, self.cluster.crush, plan))
+                self.assertEqual((status, text.count(f"'^fsid {self.FSID}$'")), (OUT, 1), error)
+
+    def test_pools(self) -> None:
+        """A pool that the scripts of a plan ask for, and that is to be split since, is told."""
+        dump = copied(self.cluster.dump)
+        dump["pools"][-1]["pg_num_target"] = 2 * dump["pools"][-1]["pg_num"]
+        for name in ("script", "folder"):
+            for found in self.asked(dump, self.cluster.crush, self.forms[name]):
+                self.assertEqual(found[:2], (1, ""), name)
+                self.assertIn("or is to be split or shrunk\nnothing is given\n", found[2])

@@ -155,7 +155,7 @@ class CephMonitor(StockCase):
         short = sum(bool({5, 6} & set(places)) for places, _ in WORST["racks"]["up"].values())
         line = f"an outage: 2 OSDs are down and {short} groups are short"
         line += ", so Ceph's balancer would wait until they are whole"
-        output, error = self.ran("plan", *files, status=1)
+        output, error = self.ran("plan", *files, status=11)
         self.assertEqual(output, "", error)
         self.assertEqual(error, f"{line}; no plan is made: --anyway makes one\n")
         output, error = self.ran("plan", *files, "--anyway")
@@ -311,7 +311,12 @@ class CephMonitor(StockCase):
         own["crush_dump"]["rules"].append({"rule_id": 9, "rule_name": "torn", "type": 1, "steps": [{"op": "take"}]})
         files = self.tools.put("o", own["osd_dump"]), self.tools.put("c", own["crush_dump"])
         self.assertEqual(self.output("import", *files, "--check"), "the cluster comes in as one map\n")
-        for changes in ({"crush_rule": 9}, {"size": "3"}, {"type": 2}):
+        cases: tuple[tuple[dict[str, object], str], ...] = (
+            ({"crush_rule": 9}, "host, with 128 groups"),
+            ({"size": "3"}, "pool 3"),
+            ({"type": 2}, "host, with 128 groups"),
+        )
+        for changes, left in cases:
             with self.subTest(changes=changes):
                 other = copied(own["osd_dump"])
                 other["pools"][2].update(changes)
@@ -320,7 +325,7 @@ class CephMonitor(StockCase):
                 self.assertStarts(error.splitlines()[-1], "the cluster stays out")
                 self.assertEqual(
                     self.output("import", *files, "--check", "--pools", "1,2"),
-                    "the cluster comes in as one map\n",
+                    f"the cluster comes in as one map\nleft out by --pools: {left}\n",
                     changes,
                 )
 

@@ -38,11 +38,11 @@ class Chosen(StockCase):
         new = {**was, **{group: entry[0] for group, entry in record["new_up"].items()}}
         below = {item["id"] for own in record["crush_dump"]["buckets"] if own["name"] == "h1" for item in own["items"]}
         wanted: dict[str, tuple[str, Callable[[str], bool]]] = {
-            "--pg": ("2.0,2.1,2.2", lambda group: group in ("2.0", "2.1", "2.2")),
-            "--osd": ("osd.3,4", lambda group: bool({3, 4} & {*was[group]})),
-            "--host": ("h1", lambda group: bool(below & {*was[group]})),
+            "--of-pg": ("2.0,2.1,2.2", lambda group: group in ("2.0", "2.1", "2.2")),
+            "--of-osd": ("osd.3,4", lambda group: bool({3, 4} & {*was[group]})),
+            "--of-host": ("h1", lambda group: bool(below & {*was[group]})),
             "--of-class": ("hdd", lambda group: True),
-            "--of-pool": ("1", lambda group: group.startswith("1.")),
+            "--of-pool": ("2", lambda group: group.startswith("2.")),
         }
         for option, (word, is_chosen) in wanted.items():
             with self.subTest(option=option):
@@ -60,9 +60,9 @@ class Chosen(StockCase):
         record = RECORDS[WEIGHT]
         files = self.files(record)
         for option, word, told in (
-            ("--pg", "2.0,9.9", "no group 9.9"),
-            ("--osd", "osd.99", "osd.99: no OSD of the map"),
-            ("--host", "nobody", "nobody: no OSD of the map, nor a bucket"),
+            ("--of-pg", "2.0,9.9", "no group 9.9"),
+            ("--of-osd", "osd.99", "osd.99: no OSD of the map"),
+            ("--of-host", "nobody", "nobody: no OSD of the map, nor a bucket"),
             ("--of-class", "tape", "no OSD of device class tape; there are hdd"),
             ("--of-pool", "nobody", "no pool nobody"),
         ):
@@ -85,13 +85,13 @@ class Chosen(StockCase):
             for group, (osds, _) in record["up"].items()
         ]
         path = self.tools.put("pgs", {"pg_stats": stats})
-        whole = self.json("hold", "--at", path, *files, "--anyway")
-        told = self.json("hold", "--at", path, *files)
+        whole = self.json("hold", "--pgs", path, *files, "--anyway")
+        told = self.json("hold", "--pgs", path, *files)
         of_torn = [line for line in whole["commands"] if line.split(" ")[3] in torn]
         self.assertTrue(of_torn)
         self.assertEqual(told["commands"], [line for line in whole["commands"] if line not in of_torn])
         self.assertEqual({entry["group"] for entry in told["left"]}, set(torn))
-        _, error = self.ran("hold", "--at", path, *files)
+        _, error = self.ran("hold", "--pgs", path, *files)
         self.assertIn(f"{path}: {len(torn)} groups are degraded or not active: ", error)
         self.assertIn("; they stay as they are\n", error)
 
@@ -106,7 +106,7 @@ class Chosen(StockCase):
         files = [self.tools.put("o", own["osd_dump"]), self.tools.put("c", own["crush_dump"])]
         stats = [{"pgid": group, "acting": osds, "state": "active+clean"} for group, (osds, _) in own["up"].items()]
         path = self.tools.put("pgs", {"pg_stats": stats})
-        told, wanted = self.json("hold", "--at", path, files[0], new), self.json("hold", *files, files[0], new)
+        told, wanted = self.json("hold", "--pgs", path, files[0], new), self.json("hold", *files, files[0], new)
         self.assertGreater(len(wanted["commands"]), 10)
         for key in ("undo", "groups", "places", "held", "left"):
             self.assertEqual(told[key], wanted[key], key)
@@ -135,8 +135,8 @@ class Chosen(StockCase):
         value = self.output("import", self.tools.put("bare", bare), files[1])
         to = sets_of(self.tools.sets(json.loads(value), "--stock"))
         for option, word, wanted in (
-            ("--osd", "osd.5", [group for group in was if 5 in was[group]]),
-            ("--pg", "2.0,2.1", ["2.0", "2.1"]),
+            ("--of-osd", "osd.5", [group for group in was if 5 in was[group]]),
+            ("--of-pg", "2.0,2.1", ["2.0", "2.1"]),
             ("--from", "osd.5", [group for group in was if 5 in {*was[group]} - {*to[group]}]),
         ):
             with self.subTest(option=option):
@@ -164,12 +164,30 @@ class Chosen(StockCase):
             self.assertEqual((str(told["held"]), str(told["groups"]), told["left"]), (found[2], found[3], []))
         commands(self.output("hold", *files, "--out", "h1", "--undo"))
 
+    def test_none_chosen(self) -> None:
+        """Where none of the groups that would move is chosen, nothing is held: status 1, no script, also as JSON."""
+        record = RECORDS[WEIGHT]
+        files, was, now = self.files(record), record["up"], record["new_up"]
+        still = next(group for group in was if was[group] == now.get(group, was[group]))
+        for words in (
+            ["--of-pg", still],
+            ["--of-pg", still, "--json"],
+            ["--of-pg", still, "--to", self.tools.folder / "none.sh"],
+        ):
+            status, output, error = self.tools.run("hold", *files, *words)
+            last = error.splitlines()[-1]
+            self.assertRegex(last, "^nothing is held: of [0-9]+ groups that would move none is chosen$")
+            self.assertEqual(status, 1, error)
+            told = json.loads(output)["refused"] if "--json" in words else output
+            self.assertEqual(told, {"code": "refused", "status": 1, "why": [last]} if "--json" in words else "")
+        self.assertFalse((self.tools.folder / "none.sh").exists())
+
     def test_nothing_but_before(self) -> None:
         """Where nothing can be held and all of it can be moved before the change, that is told."""
         own, new = WORST["racks"], self.tools.put("new", kept("prepared.json.gz")["new_crush_dump"])
         files = [self.tools.put("o", own["osd_dump"]), self.tools.put("c", own["crush_dump"])]
         left = [entry["group"] for entry in self.json("hold", *files, "--crush", new)["left"]]
-        _, error = self.ran("hold", *files, "--crush", new, "--pg", ",".join(left), status=1)
+        _, error = self.ran("hold", *files, "--crush", new, "--of-pg", ",".join(left), status=1)
         first, second, *_ = error.splitlines()
         self.assertTrue(first.startswith("nothing is held: of "), first)
         told = f"`--prepare` moves {len(left)} groups before the change, and a hold then leaves 0 groups"
@@ -200,26 +218,29 @@ class ChosenPools(StockCase):
     def test_classes(self) -> None:
         """The pools of the classes are planned as by their names, those across are told; of a map by its names too."""
         files = self.files()
-        output, error = self.ran("plan", *files, "--class", "ssd")
+        output, error = self.ran("plan", *files, "--of-class", "ssd")
         self.assertStarts(error, "not planned: device_health_metrics, which has places on OSDs of other device classes")
-        wanted = commands(self.output("plan", *files, "--pool", "hot"))
+        wanted = commands(self.output("plan", *files, "--of-pool", "hot"))
         self.assertEqual(commands(output), wanted)
         self.assertTrue(wanted)
-        both = self.json("plan", *files, "--class", "hdd,ssd")
+        both = self.json("plan", *files, "--of-class", "hdd,ssd")
         self.assertEqual(both["commands"], self.json("plan", *files)["commands"])
         names, value = self.tools.folder / "names", self.tools.folder / "map"
         value.write_text(self.output("import", *files, "--pools", "2,3", "--names", names))
         words = ["plan", value, "--names", names]
-        output = self.output(*words, "--class", "ssd")
-        self.assertEqual(commands(output), commands(self.output(*words, "--pool", "hot")))
-        alone = self.json("plan", *files, "--class", "ssd", "--alone")
+        output = self.output(*words, "--of-class", "ssd")
+        self.assertEqual(commands(output), commands(self.output(*words, "--of-pool", "hot")))
+        alone = self.json("plan", *files, "--of-class", "ssd", "--alone")
         self.assertEqual([pool["name"] for pool in alone["pools"]], ["hot"])
 
     def test_words(self) -> None:
         """A class that no OSD has, and one that no named pool has, are told."""
         files = self.files()
         for words, told in (
-            (["--class", "tape"], "no OSD of device class tape; there are hdd, ssd"),
-            (["--class", "hdd", "--pool", "hot"], "no pool of several groups lies on OSDs of device class hdd alone"),
+            (["--of-class", "tape"], "no OSD of device class tape; there are hdd, ssd"),
+            (
+                ["--of-class", "hdd", "--of-pool", "hot"],
+                "no pool of several groups lies on OSDs of device class hdd alone",
+            ),
         ):
             self.is_told(self.tools.run("plan", *files, *words), 1, told, words)

@@ -484,9 +484,12 @@ class LastPass:
 
 
 class Measured:
-    """How even a cluster of some maps is by the sets of its groups: by groups, and by what these hold."""
+    """How even a cluster of some maps is by the sets of its groups: by groups, and by what these hold; beside what the
+    rules can give OSDs, or what these weigh for."""
 
-    def __init__(self, maps: Iterable[Json], sets: dict[str, str], of_place: Mapping[int, float]) -> None:
+    def __init__(
+        self, maps: Iterable[Json], sets: dict[str, str], of_place: Mapping[int, float], is_by_weight: bool = False
+    ) -> None:
         # By groups, and by what these hold.
         self.has: tuple[dict[int, float], dict[int, float]] = ({}, {})
         self.share: tuple[dict[int, float], dict[int, float]] = ({}, {})
@@ -505,6 +508,8 @@ class Measured:
                 trees: list[Mapping[int, float | Fraction]] = [weights]
                 if len(whole) == sum(map(len, taken)):
                     trees = [*reach_of(value, pool, weights)]
+                    if is_by_weight:
+                        trees = [{osd: weights[osd] for osd in own if osd in weights} for own in taken]
                 for tree in trees:
                     self.add([entry for entry in own if entry[0] in tree], tree)
 
@@ -574,10 +579,10 @@ class ClusterPlans(StockCase):
                 held = {pool["id"]: rng.choice([0, 1, 7, 10**6]) * rng.randint(1, 10**9) for pool in value["pools"]}
             deviation = None if case >= 16 else rng.choice(["0.5", "1", "1.25", None])
             words = (["--df", self.df_of(held)] if held else []) + (["--deviation", deviation] if deviation else [])
-            words += ["--by-weight"] if case % 5 == 4 else []
+            words += ["--by-weight" if case % 5 == 4 else "--by-reach"]
             model = Model(cluster, held, case % 5 == 4)
             wanted = [1] if case % 8 == 2 else [2] if case % 8 == 4 else model.several
-            words += ["--pool", wanted[0]] if len(wanted) == 1 and wanted != model.several else []
+            words += ["--of-pool", wanted[0]] if len(wanted) == 1 and wanted != model.several else []
             words += ["--room"] if case >= 16 else []
             told, sets = self.planned(value, *words, "--anyway")
             if case < 16:
@@ -617,8 +622,8 @@ class ClusterPlans(StockCase):
             self.assertEqual(monitor.balance(1, apart=1024, carried={5: 2560}).moves, 0)
 
     def test_no_cluster_gets_less_even(self) -> None:
-        """No stock cluster is less even by its plan, by groups or by bytes, and what the plan tells of it is so; one of
-        many pools gets far more even."""
+        """No stock cluster is less even by its plan, by groups or by bytes, beside the shares by which the plan goes,
+        and what the plan tells of it is so; one of many pools gets far more even."""
         rng = random.Random(11)
         for name in FEW:
             with self.subTest(name=name):
@@ -638,17 +643,24 @@ class ClusterPlans(StockCase):
                     },
                 )
                 of_place = {pool["pool"]: held[pool["pool"]] / (pool["pg_num"] * pool["size"]) for pool in pools}
-                self.ran("import", *files, "--out", f"maps-{name}")
+                self.ran("import", *files, "--to", f"maps-{name}")
                 maps = [json.loads(path.read_text()) for path in sorted((self.tools.folder / f"maps-{name}").iterdir())]
-                start = Measured(maps, self.sets(*maps), of_place).all()
+                first = self.sets(*maps)
                 for words in ((), ("--df", df)):
                     told = json.loads(self.output("plan", *files, "--json", *words))
+                    goes_by = told.get("shares", {}).get("by")
+                    is_by_weight = goes_by in ("weight", "all pools")
+                    start = Measured(maps, first, of_place, is_by_weight).all()
                     after = [
                         with_commands(value, [line for line in told["commands"] if is_of(line, value)])
                         for value in maps
                     ]
-                    end = Measured(after, self.sets(*after), of_place).all()
+                    end = Measured(after, self.sets(*after), of_place, is_by_weight).all()
                     by = (0, 1, 2, 3) if words else (0, 2)
+                    if goes_by == "all pools":
+                        # What OSDs are to have then is told by no weight: the fullest to its weight is no fuller.
+                        self.assertLessEqual(end[by[-1]], start[by[-1]] * (1 + 1e-3), (name, words))
+                        continue
                     self.assertTrue(all(end[at] <= start[at] * (1 + 1e-9) for at in by), (name, words, start, end))
                     for key, own in (("before", start), ("after", end)):
                         found = told["cluster"][key]
@@ -682,7 +694,7 @@ class ClusterPlans(StockCase):
         self.assertEqual(away, sorted(away, reverse=True))
         for most in (1, 20, 10_000):
             with self.subTest(most=most):
-                self.assertEqual(commands(self.output("plan", *files, "--max", most)), whole[:most])
+                self.assertEqual(commands(self.output("plan", *files, "--first", most)), whole[:most])
         flat = dict.fromkeys((pool["id"] for pool in value["pools"]), 1)
         now, paths = value, self.output("plan", *files, "--batch", 25, "--to", "parts").splitlines()
         lines = [commands(pathlib.Path(self.tools.folder, path).read_text()) for path in paths]
@@ -840,7 +852,7 @@ class ClusterPlans(StockCase):
             ),
         ):
             with self.subTest(line=line):
-                for words in ([], ["--pool", first["id"]]):
+                for words in ([], ["--of-pool", first["id"]]):
                     found = self.tools.run("plan", *files, *words, "--df", self.tools.put("w", {"pools": changed}))
                     self.assertEqual(found, (1, "", f"{self.tools.folder / 'w'}: {line}\n"))
         self.assertEqual(self.tools.run("plan", *files, "--df", self.tools.put("w", {"pools": rows}))[0], 0)
@@ -872,5 +884,5 @@ class ClusterPlans(StockCase):
         )
         one = next(own for own, groups in pools.items() if groups == 1)
         self.assertEqual(
-            [line.split(": ")[0] for line in pool_lines(self.ran("plan", *files, "--pool", one)[1])], [one]
+            [line.split(": ")[0] for line in pool_lines(self.ran("plan", *files, "--of-pool", one)[1])], [one]
         )

@@ -334,7 +334,7 @@ class Commands(ToolCase):
             (2, ("import", osd, "nowhere")),
             (1, ("df", self.tools.put("bare", '{"buckets":[]}'))),
             (1, ("explain", value, "9.9")),
-            (1, ("plan", osd, crush, "--pool", "nobody")),
+            (1, ("plan", osd, crush, "--of-pool", "nobody")),
             (2, ("diff", none, osd)),
             (1, ("whatif", value, "--out", "nobody")),
         ):

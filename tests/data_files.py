@@ -212,7 +212,7 @@ class DataFiles(ToolCase):
         line = next(own for own in lines if own.endswith(" osd.0"))
         self.assertEqual(line.split()[3:7], ["1.0", "TiB", f"{used[0] / GIB:.1f}", "GiB"])
         page = self.output("report", *words[1:])
-        self.assertIn("<th>RAW USE</th>", page)
+        self.assertIn("<button>RAW USE</button>", page)
         self.assertTrue(
             re.search(r"<title>osd[.]0: [0-9]+ groups, share [0-9.]+, [0-9.]+ GiB of 1[.]0 TiB in use", page)
         )

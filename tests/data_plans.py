@@ -100,10 +100,10 @@ class DataPlans(StockCase):
             self.assertLess(self.fullest(maps, lines, of_place), 1.06)
         for most in (5, len(room) + 10):
             with self.subTest(most=most):
-                first = commands(self.output("plan", *files, "--max", most))
+                first = commands(self.output("plan", *files, "--first", most))
                 self.assertEqual(len(first), most)
                 self.assertLess(len(set(of_groups(first[: len(room)])) - set(of_groups(room))), 4)
-        self.assertEqual(commands(self.output("plan", *files, "--max", 5)), room[:5])
+        self.assertEqual(commands(self.output("plan", *files, "--first", 5)), room[:5])
 
     def test_reasons(self) -> None:
         """A plan tells of each OSD that it leaves above 1.1 of its share, and of no other, in which pools most of its
@@ -111,7 +111,7 @@ class DataPlans(StockCase):
         for name, seed, words in REASONS:
             with self.subTest(name=name, seed=seed, words=words):
                 files, maps, of_place = self.with_data(name, made_up(name, seed))
-                told = self.json("plan", *files, *words)
+                told = self.json("plan", *files, *words, "--by-reach")
                 lines = told["commands"]
                 after = [with_commands(value, [line for line in lines if is_of(line, value)]) for value in maps]
                 measured = Measured(after, self.sets(*after), of_place)
@@ -130,7 +130,7 @@ class DataPlans(StockCase):
         held = made_up(HYBRID, 1)
         files, maps, of_place = self.with_data(HYBRID, held)
         value = next(own for own in maps if own["pools"][0]["id"] == 2)
-        output, error = self.ran("plan", *files, "--pool", "vms")
+        output, error = self.ran("plan", *files, "--of-pool", "vms")
         lines = commands(output)
         self.assertNotIn("no plan", error)
         self.assertGreater(self.fullest(maps, [], of_place), 1.3)

@@ -88,6 +88,17 @@ class DfOutput(ToolCase):
             self.assertAlmostEqual(float(rows[osd]["RATIO"]), counts[osd] / shares[osd], delta=0.006)
             self.assertAlmostEqual(float(rows[osd]["DEVIATION"]), counts[osd] - shares[osd], delta=0.006)
 
+    def test_leads(self) -> None:
+        """LEADS is how many groups have an OSD first, over all OSDs below a bucket, and all of them in the totals."""
+        _, files = self.classed()
+        answers = self.tools.sets(json.loads(self.output("import", *files))).values()
+        leaders = [int(answer.split(" ")[1]) for answer in answers]
+        for osd, row in self.rows_of_osds(files).items():
+            self.assertEqual(int(row["LEADS"]), leaders.count(osd), osd)
+        for row in self.rows(files):
+            if row["TYPE NAME"].startswith(("root ", "TOTAL")):
+                self.assertEqual(int(row["LEADS"]), len(leaders))
+
     def test_totals(self) -> None:
         """The tree ends with its totals; OSDs that no bucket has stand in a part of their own, and those that do not
         exist in none."""
@@ -123,7 +134,9 @@ class DfOutput(ToolCase):
         self.assertFalse({row["id"] for row in told["nodes"]} & {count, count + 1, count + 2})
         lines = [line.split() for line in self.output("df", "m").splitlines()]
         at = next(at for at, line in enumerate(lines) if line[-1] == "TOTAL")
-        self.assertEqual(lines[at][:-1], [f"{weight:.5f}", f"{told['summary']['share']:.2f}", str(len(places))])
+        self.assertEqual(
+            lines[at][:-1], [f"{weight:.5f}", f"{told['summary']['share']:.2f}", str(len(places)), str(len(sets))]
+        )
         self.assertEqual([line[0] for line in lines[at - 2 : at]], [str(count), str(count + 1)])
         self.assertEqual(lines[at - 3], ["outside", "every", "bucket"])
         self.assertNotIn("outside", self.output("df", self.tools.put("m", self.tools.map("002-built"))))

@@ -112,8 +112,7 @@ def put_older(folder: pathlib.Path) -> None:
 
 def put_others(folder: pathlib.Path) -> None:
     """Puts the dumps of a cluster of six racks into a folder, and of the one there an OSD dump in which a disk is out,
-    and a dump of groups that tells where the data is.
-    """
+    and a dump of groups that tells where the data is."""
     own, cluster = kept("operators.json.gz")["clusters"]["racks"], copied(STOCK["001-three-hosts"])
     stats = [{"pgid": group, "acting": osds, "state": "active+clean"} for group, (osds, _) in cluster["up"].items()]
     cluster["osd_dump"]["osds"][3]["weight"] = 0
@@ -121,7 +120,7 @@ def put_others(folder: pathlib.Path) -> None:
         ("racks-osd", own["osd_dump"]),
         ("racks-crush", own["crush_dump"]),
         ("out-osd", cluster["osd_dump"]),
-        ("pgs", {"pg_stats": stats}),
+        ("moving", {"pg_stats": stats}),
     ):
         (folder / f"{name}.json").write_text(json.dumps(value))
 
@@ -204,15 +203,15 @@ class Dialogues(Case):
             self.assertEqual(in_a_shell({"osdmapd": self.program}, commands, typed), "".join(answers))
 
     def test_guide(self) -> None:
-        """Every block of docs/CEPH.md that shows a dialogue, in their order in one folder, over clusters that a monitor
-        of Ceph dumped. What is told on standard error is put out too."""
+        """Every block of docs/CEPH.md and of docs/COMMANDS.md that shows a dialogue, in their order in one folder, over
+        clusters that a monitor of Ceph dumped. What is told on standard error is put out too."""
         with tempfile.TemporaryDirectory() as name:
             folder = pathlib.Path(name)
             other = copied(STOCK["008-rgw-ec83"])
             other["osd_dump"]["pools"][3]["size"] = 21
             for part in ("osd", "crush"):
                 (folder / f"other-{part}.json").write_text(json.dumps(other[f"{part}_dump"]))
-            for file in ("osd.json", "crush.json", "new.json"):
+            for file in ("osd.json", "crush.json", "new.json", "pgs.json"):
                 (folder / file).write_bytes((EXAMPLES / "ceph" / file).read_bytes())
             small = with_weights(json.loads((folder / "crush.json").read_text()), dict.fromkeys((10, 11), 29802))
             (folder / "small.json").write_text(json.dumps(small))
@@ -226,7 +225,7 @@ class Dialogues(Case):
             dump = held(STOCK["001-three-hosts"]["osd_dump"], json.loads(done.stdout)["commands"])
             (folder / "held.json").write_text(json.dumps(dump))
             (folder / "held-crush.json").write_text((folder / "new.json").read_text())
-            found = [*dialogues("docs/CEPH.md")]
+            found = [*dialogues("docs/CEPH.md"), *dialogues("docs/COMMANDS.md")]
             self.assertGreater(len(found), 7)
             for commands, _, answers in found:
                 done = subprocess.run(
@@ -244,11 +243,14 @@ class Dialogues(Case):
                 self.assertTrue(all(map(like, told, answers)), (commands, told, answers))
 
     def test_cluster_of_the_guide(self) -> None:
-        """The files of examples/ceph are dumps of a monitor, and the CRUSH map with a heavier host"""
+        """The files of examples/ceph are dumps of a monitor, the CRUSH map with a heavier host, and the sets that this
+        monitor had"""
         cluster = STOCK["001-three-hosts"]
         wanted = cluster["osd_dump"], cluster["crush_dump"], heavier(cluster["crush_dump"], {0, 1, 2, 3})
         for name, dump in zip(("osd", "crush", "new"), wanted):
             self.assertEqual(json.loads((EXAMPLES / "ceph" / f"{name}.json").read_text()), dump)
+        rows = json.loads((EXAMPLES / "ceph" / "pgs.json").read_text())["pg_map"]["pg_stats"]
+        self.assertEqual({row["pgid"]: [row["up"], row["up_primary"]] for row in rows}, cluster["up"])
 
     def test_first_screen(self) -> None:
         """The script of README.md and its answers beside it, where two points stand for the rest of a line."""

@@ -272,10 +272,10 @@ class BadDrains(StockCase):
             with self.subTest(words=words):
                 self.is_told(self.tools.run("drain", *files, *words), status, told, words)
 
-    def refused(self, own: Json, *words: object) -> str:
+    def refused(self, own: Json, *words: object, status: int = 1) -> str:
         """What is told where nothing is drained."""
         files = self.tools.put("o", own["osd_dump"]), self.tools.put("c", own["crush_dump"])
-        output, error = self.ran("drain", *files, *words, status=1)
+        output, error = self.ran("drain", *files, *words, status=status)
         self.assertEqual(output, "")
         return error
 
@@ -292,7 +292,7 @@ class BadDrains(StockCase):
         own = copied(STOCK[BUILT])
         own["osd_dump"]["osds"][1]["weight"] = 0
         self.assertIn("osd.1 is out already", self.refused(own, "osd.1"))
-        self.assertIn("`hold --at PGS` stops what is moving still", self.refused(own, "node1"))
+        self.assertIn("`hold --pgs PGS` stops what is moving still", self.refused(own, "node1"))
         own = copied(STOCK[BUILT])
         self.assertIn("pool 2: its rule takes these OSDs alone", self.refused(own, "default"))
         for bucket in own["crush_dump"]["buckets"]:
@@ -305,7 +305,7 @@ class BadDrains(StockCase):
         """A cluster that moves already, or is amid an outage, is told, and drained with --anyway alone."""
         own = copied(STOCK[BUILT])
         own["osd_dump"]["pg_temp"] = [{"pgid": "2.0", "osds": [1, 2, 3]}]
-        error = self.refused(own, "osd.7")
+        error = self.refused(own, "osd.7", status=11)
         self.assertStarts(error, "the cluster moves already: 1 group has a pg_temp")
         self.assertEnds(error, "nothing is drained: --anyway does it nonetheless\n")
         files = self.tools.put("o", own["osd_dump"]), self.tools.put("c", own["crush_dump"])

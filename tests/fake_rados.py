@@ -17,9 +17,11 @@ from rekhuso import together
 
 from tests.clusters import Json, copied
 
-# How long the monitor gathers behind the last that has come, where its interval is the long one, and where it is its
+# How long the monitor gathers behind the last that has come, where its interval is a long one, and where it is its
 # own, in seconds.
-LONG, OWN = 1.2, 0.01
+LONG, OWN = 20, 0.01
+# What the leading monitor has before.
+SETTINGS = {together.INTERVAL: "0.5", together.LEAST: "0.05"}
 # The words that make a map.
 WRITES = ("osd set", "osd unset", "osd setcrushmap", "osd pg-upmap", "osd rm-pg-upmap")
 
@@ -31,10 +33,12 @@ class World:
 
     def __init__(self, dump: Json, maps: dict[bytes, Json], crush: bytes, home: dict[bytes, Json]) -> None:
         self.dump, self.maps, self.crush, self.home = copied(dump), maps, crush, home
-        self.interval, self.given = "0.5", list[Json]()
+        self.settings, self.given = dict(SETTINGS), list[Json]()
+        # Whether it tells what it has taken, as monitors do from Ceph 15 on; and who decides.
+        self.tells, self.quorum = True, ["a", "b", "c"]
         # What is refused, by its words: all that it says, or from which time on.
         self.refused = dict[str, tuple[int, int]]()
-        self.pending, self.lock, self.made, self.came = list[Any](), threading.Condition(), 0, 0.0
+        self.pending, self.lock, self.made, self.came = list[tuple[str, Any]](), threading.Condition(), 0, 0.0
         self.thread = threading.Thread(target=self.make_maps, daemon=True)
         self.is_over = False
         self.thread.start()
@@ -53,19 +57,21 @@ class World:
                 self.lock.wait_for(lambda: self.is_over or self.pending, 60)
                 if self.is_over:
                     return
-                seconds = OWN if self.interval == "0.5" else LONG
-                is_first = self.made == 0
-                self.gather(OWN if is_first else seconds)
-                for own in self.pending:
+                self.gather()
+                for _, own in self.pending:
                     own()
                 self.pending, self.made = [], self.made + 1
                 self.dump["epoch"] += 1
                 self.lock.notify_all()
 
-    def gather(self, seconds: float) -> None:
+    def gather(self) -> None:
         """Waits until nothing more has come for some time, however late a busy machine brings what belongs together."""
-        while not self.is_over and (left := self.came + seconds - time.monotonic()) > 0:
-            self.lock.wait_for(lambda: self.is_over, left)
+        while not self.is_over:
+            seconds = LONG if float(self.settings[together.INTERVAL]) > 1 else OWN
+            left = self.came + seconds - time.monotonic()
+            if left <= 0:
+                return
+            self.lock.wait(left)
 
     def exceptions(self, group: str) -> Any:
         """The exceptions of a group."""
@@ -108,12 +114,17 @@ class World:
         if prefix == "pg map":
             return {"up": self.set_of(words["pgid"])}
         if prefix == "config set":
-            self.interval = words["val"][0]
+            self.settings[words["var"]] = words["val"][0]
+            self.lock.notify_all()
+        events = [{"event": "osdmap:wait_for_finished_proposal"}]
+        taken = [{"description": f"mon_command({own} v 0)", "type_data": {"events": events}} for own, _ in self.pending]
         answers = {
-            "quorum_status": {"quorum_leader_name": "b"},
+            "quorum_status": {"quorum_leader_name": "b", "quorum_names": self.quorum},
             "osd dump": self.dump,
+            "config-key dump": {},
             "osd crush dump": self.maps[self.crush],
-            "config get": {"paxos_propose_interval": self.interval},
+            "config get": {words.get("var"): self.settings.get(words.get("var", ""))},
+            "ops": {"ops": taken},
         }
         return answers.get(prefix, "")
 
@@ -129,9 +140,11 @@ class World:
                 return -22, b"", "not today"
             if prefix == "osd getcrushmap":
                 return 0, self.crush, ""
+            if prefix == "ops" and not self.tells:
+                return -22, b"", "command not known"
             if not prefix.startswith(WRITES):
                 return 0, json.dumps(self.answer(words)).encode(), ""
-            self.pending.append(self.written(words, body))
+            self.pending.append((text, self.written(words, body)))
             self.came = time.monotonic()
             made = self.made
             self.lock.notify_all()

@@ -69,7 +69,7 @@ def by_data(name: str, *plans: tuple[str, tuple[str, ...]]) -> Tie:
     cells = [Cells("whole_cluster", f"{name}, {plans[0][0]}", "fullest before", last)]
     cells += [Cells("whole_cluster", f"{name}, {plan}", column, last) for plan, columns in plans for column in columns]
     told = [", ".join("{}" for _ in columns[:-1]) + ": {}" for _, columns in plans]
-    return Tie("docs/CEPH.md", f"| `{name}`, {{}} | " + " | ".join(told) + " |", tuple(cells))
+    return Tie("docs/COMMANDS.md", f"| `{name}`, {{}} | " + " | ".join(told) + " |", tuple(cells))
 
 
 def by_runs(*columns: str, plan: str = "plan --df") -> tuple[Cells, ...]:
@@ -87,14 +87,22 @@ SMALL, LARGE = "4,096 groups over 64 OSDs.*", "4,096 groups over 1,024 OSDs.*"
 TRY, RUNS = "`make try` takes {} to {} minutes", "runs of the built program {} to {} minutes"
 TIES = [
     Tie(
-        "README.md",
+        "CONTRIBUTING.md",
         "before any proof, with a program built with checks in place of proofs | {} to {} minutes",
         said=("gate", TRY),
     ),
-    Tie("README.md", "and answers the example | {} to {} minutes at first", span("gate", ALL, "osdmapd")),
-    Tie("README.md", "then runs of the program | {} to {} minutes, then the runs", span("gate", ALL, "seconds", 60)),
-    Tie("README.md", "only the runs of the built program | {} to {} minutes", said=("gate", RUNS)),
-    Tie("README.md", "Each proof needs {} to {} GB of memory", said=("gate", "Each proof needs {} to {} GB of memory")),
+    Tie("CONTRIBUTING.md", "and answers the example | {} to {} minutes at first", span("gate", ALL, "osdmapd")),
+    Tie(
+        "CONTRIBUTING.md",
+        "then runs of the program | {} to {} minutes, then the runs",
+        span("gate", ALL, "seconds", 60),
+    ),
+    Tie("CONTRIBUTING.md", "only the runs of the built program | {} to {} minutes", said=("gate", RUNS)),
+    Tie(
+        "CONTRIBUTING.md",
+        "Each proof needs {} to {} GB of memory",
+        said=("gate", "Each proof needs {} to {} GB of memory"),
+    ),
     Tie("README.md", "One session answers {} `up` lines a second", one("sessions", "1", "`up` lines a second")),
     Tie("README.md", "A map of 131,072 groups opens in {} to {} ms", span("tables", "opening, ms", BUCKETS)),
     Tie(
@@ -257,7 +265,7 @@ TIES = [
     Tie("docs/PROVED.md", "searched for five to ten minutes"),
     Tie("bench/README.md", "`past 60 s`"),
     Tie(
-        "docs/CEPH.md",
+        "docs/COMMANDS.md",
         "Over 60 clusters with data drawn twice for each, {} of {} runs had such an OSD before, and {} have one after "
         "`plan --df`. In {} of them",
         by_runs("above 1.1 before", "runs", "above 1.1 after", "above 1.1 by any plan"),
@@ -272,7 +280,7 @@ TIES = [
         "By `--room` {} of the {} end above 1.1",
         by_runs("above 1.1 after", "runs", plan="plan --df --room"),
     ),
-    Tie("docs/CEPH.md", "(G + 10 s B)"),
+    Tie("docs/REASONS.md", "(G + 10 s B)"),
     by_data("lab", ("plan", ALL_OF_PLAN), *BY_DATA, ("plan --df --pgs --osds", ALL_OF_PLAN)),
     by_data("fiverack", ("plan", ALL_OF_PLAN), *BY_DATA),
     *(by_data(name, ("plan", NOT_MOVED), *BY_DATA) for name in ("classes_many", "het_many", "tuned")),

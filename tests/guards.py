@@ -169,7 +169,7 @@ class GuardLines(ShellCase):
         for line in OWN.lines(LINES):
             self.assertTrue(is_guard(line), line)
         self.assertEqual(len(commands_in("\n".join(["set -e", *OWN.lines(LINES), *LINES]))), len(LINES))
-        good = OWN.lines(LINES)[2]
+        good = OWN.lines(LINES)[3]
         for line in (
             *(good + " ", good + "; ceph status", good + " x", good.replace("has ", "has  "), "has", "has a b"),
             *("now=$(ceph osd dump);", "now=$(ceph status)", "has '^pool 1 .*' 'x'", f"{good} $(touch x)"),
@@ -257,6 +257,8 @@ class HoldScripts(ShellCase):
                 self.assertEqual(asked[0].split(" ")[:3], ["has", "'^fsid", f"{FSID}$'"])
                 self.assertEqual(asked[1].split(" ")[:3], ["has", "'^crush_version", f"{version}$'"])
                 pools = {line.split(" ")[3].split(".")[0] for line in commands(text) if "pg-upmap" in line}
+                # A hold says of each group where it is then, and so asks for all pools.
+                pools |= {"1"} if words[0] == "hold" and "--undo" not in words else set()
                 self.assertEqual({line.split(" ")[2] for line in asked[2:]}, pools)
                 self.assertNotIn("ceph osd dump)\nhas", self.output(*words, "--no-guard"))
 

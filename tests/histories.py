@@ -25,6 +25,7 @@ from rekhuso.program import stores
 from tests import model
 from tests.cases import example
 from tests.clusters import Json
+from tests.monitoring import samples_in
 from tests.tool_cases import AS_MONITOR, ToolCase
 from tests.whole_maps import crush_of, pool_of
 
@@ -271,7 +272,7 @@ class Histories(ToolCase):
         for epoch in (1, 3, 4, 5, 7, 8, journal.last):
             lines = [f"change {json.dumps(change)}" for change in changes()[: epoch - 1]]
             wanted = model.answers(example(), [*lines, "dump"])[-1].removeprefix("dump ")
-            with self.subTest(epoch=epoch), mock.patch.object(stores, "MOST", 3):
+            with self.subTest(epoch=epoch), mock.patch.object(stores, "RUN_MOST", 3):
                 with stores.map_at(journal, epoch, program) as monitor:
                     self.assertEqual(monitor.text(), wanted)
 
@@ -329,12 +330,59 @@ class Histories(ToolCase):
                 shutil.copyfile(f"{path}{end}", folder / f"store{end}")
         return folder / "store", (folder / "store-wal").read_bytes()
 
+    def test_metrics(self) -> None:
+        """Beside what it tells, a file has what a store and a copy tell of themselves, in Prometheus' text format"""
+        path, log = self.claiming("open", 2, *NOTED)
+        last, copy = 1 + len(CHANGES), self.path("copy")
+        with store_at(copy, *TABLES, *NOTED) as database:
+            fill(database, example(), [(2, f"life=7,made=1764417600500 {rows()[0][1]}")])
+        os.utime(copy, (1764417700, 1764417700))
+        told = self.output("history", path)
+        words = ["--prometheus", "out.prom"]
+        self.assertEqual(self.output("history", path, *words, "--copy", copy), told)
+        found = samples_in(self.path("out.prom").read_text())
+        wanted = {
+            "epoch": last,
+            "first_epoch": 1,
+            "changes": last - 1,
+            "keep": 5,
+            "file_bytes": path.stat().st_size,
+            "log_bytes": len(log),
+            "run_is_open": 1,
+            "run_changes": last - 2,
+            "run_changes_left": 65536 - (last - 2),
+            "copy_epoch": 2,
+            "copy_seconds": 1764417700,
+        }
+        self.assertEqual(found, {(f"rekhuso_store_{name}", ()): value for name, value in wanted.items()})
+        # By itself, and of the older form.
+        self.output("history", copy, *words)
+        found = samples_in(self.path("out.prom").read_text())
+        own = {name: found["rekhuso_store_" + name, ()] for name in ("changed_seconds", "run_is_open", "log_bytes")}
+        self.assertEqual(own, {"changed_seconds": 1764417600.5, "run_is_open": 0, "log_bytes": 0})
+        older = self.store("older")
+        self.output("history", older, *words)
+        self.assertNotIn("rekhuso_store_keep", self.path("out.prom").read_text())
+        cases: list[tuple[list[object], str]] = [
+            ([*words, "--copy", older], f"{older}: no copy of {path}, but of another store"),
+            ([*words, "--at", "2"], "--at puts out a map as it is"),
+            (["--copy", copy], "--copy is told by --prometheus"),
+            (["--prometheus", "no/where"], "no/where: No such file"),
+        ]
+        for options, why in cases:
+            self.is_told(self.tools.run("history", path, *options), 2, why, options)
+
     def is_lost(self, path: pathlib.Path, epoch: int, *words: object) -> None:
         """Asks that `history` tells that the log of a store is missing, and by which word it goes on, and nothing
         else; and that it leaves all as it is."""
         before = held(path.parent)
-        told = f"its log is missing: bring it back, or by --without-log {epoch} lose what it has behind that epoch"
-        self.assertEqual(self.tools.run("history", path, *words), (2, "", f"{path}: {told}\n"))
+        told = (
+            f"{path}: its log is missing: bring it back, or by --without-log {epoch} lose what it has behind that epoch"
+        )
+        status, output, error = self.tools.run("history", path, *words)
+        self.assertEqual((status, error), (2, f"{told}\n"))
+        found = json.loads(output)["refused"] if "--json" in words else output
+        self.assertEqual(found, {"code": "trouble", "status": 2, "why": [told]} if "--json" in words else "")
         self.assertEqual(held(path.parent), before)
 
     def test_log_that_is_missing(self) -> None:

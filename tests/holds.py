@@ -163,7 +163,7 @@ class Holds(StockCase):
         ]
         for value in ({"pg_stats": stats}, {"pg_ready": True, "pg_map": {"pg_stats": stats}}):
             path = self.tools.put("pgs", value)
-            self.assertEqual(self.json("hold", "--at", path, *files[2:])["commands"], wanted)
+            self.assertEqual(self.json("hold", "--pgs", path, *files[2:])["commands"], wanted)
 
     def test_whatif(self) -> None:
         """`whatif` tells what moves by another CRUSH map as the monitor has it, and by --hold what a hold would
@@ -263,8 +263,8 @@ class BadHolds(StockCase):
             (["hold", *files], "nothing is changed"),
             (["hold", files[0], "--out", "osd.1"], "hold takes the two dumps of today"),
             (["hold", *files, *files, "--out", "osd.1"], "--out does not go with four dumps"),
-            (["hold", *files, *files, "--at", files[0]], "--at does not go with four dumps"),
-            (["hold", "--at", files[0], *files, "--out", "osd.1"], "--out does not go with --at"),
+            (["hold", *files, *files, "--pgs", files[0]], "--pgs does not go with four dumps"),
+            (["hold", "--pgs", files[0], *files, "--out", "osd.1"], "--out does not go with --pgs"),
             (["hold", *files, "--out", "osd.1", "--batch", "5"], "--batch goes with --to"),
             (["hold", *files, "--out", "osd.1", "--json", "--undo"], "--json tells the commands and their undoing"),
             (["hold", *files, "--pool", "rbd", "colour=red"], "argument --pool: colour=red: "),
@@ -327,7 +327,7 @@ class BadHolds(StockCase):
         ):
             with self.subTest(told=told):
                 path = self.tools.put("pgs", value)
-                self.is_told(self.tools.run("hold", "--at", path, *files), 1, f"{path}: {told}", told)
+                self.is_told(self.tools.run("hold", "--pgs", path, *files), 1, f"{path}: {told}", told)
 
     def test_moving_clusters(self) -> None:
         """A cluster that is degraded, or of which 5 % of the places are still to move, is told first, and held or
@@ -355,7 +355,7 @@ class BadHolds(StockCase):
                 (["release", path, crush], "released"),
             ):
                 with self.subTest(told=told, what=what):
-                    output, error = self.ran(*words, status=1)
+                    output, error = self.ran(*words, status=11)
                     self.assertEqual(output, "")
                     self.assertStarts(error, told)
                     self.assertEnds(error, f"nothing is {what}: --anyway does it nonetheless\n")
@@ -366,7 +366,7 @@ class BadHolds(StockCase):
             {"pgid": group, "acting": osds, "state": "active+undersized"} for group, (osds, _) in record["up"].items()
         ]
         path = self.tools.put("pgs", {"pg_stats": stats})
-        _, error = self.ran("hold", "--at", path, self.tools.put("o", record["new_osd_dump"]), new, status=1)
+        _, error = self.ran("hold", "--pgs", path, self.tools.put("o", record["new_osd_dump"]), new, status=11)
         self.assertStarts(error, f"{path}: {len(stats)} groups are degraded or not active")
 
 
@@ -418,7 +418,7 @@ class Releases(StockCase):
         """With the dump from behind the change and before the hold, the sets are in the end those of the monitor
         then."""
         dump = self.tools.put("kept", self.record["new_osd_dump"])
-        told = self.json("release", *self.files, "--keep", dump, "--batch", 80)
+        told = self.json("release", *self.files, "--before", dump, "--batch", 80)
         _, found = self.in_order(told)
         was = {group: entry[0] for group, entry in {**self.record["up"], **self.record["new_up"]}.items()}
         self.assertEqual({group: set(places) for group, places in found.items()}, {g: set(was[g]) for g in was})

@@ -144,8 +144,8 @@ class JsonOutput(ToolCase):
         self.assertEqual([f"{one['why']}: {one['advice']}" for one in own], told["reasons"])
         self.assertEqual([one["code"] for one in own], ["pool-size-plain"])
         self.is_told(
-            self.tools.run("import", *files, "--json", "--out", "folder"),
+            self.tools.run("import", *files, "--json", "--to", "folder"),
             2,
-            "--json tells all maps at once: --out does not go with it",
+            "--json tells all maps at once: --to does not go with it",
             "out",
         )

@@ -1,5 +1,5 @@
 """Scripts of `plan`, `hold`, `release` and `drain`, which the program judges before they are put out: faults are
-planted in the tools, one at a time, and each ends in status 1 and no command. And what the program says of exceptions
+planted in the tools, one at a time, and each ends in status 70 and no command. And what the program says of exceptions
 (`fkept`): beside what a real monitor made of them, and beside the tools' own reading, which names the reasons."""
 
 from __future__ import annotations
@@ -25,6 +25,7 @@ from rekhuso.plans.bounds import Filling, Measure, Step
 from rekhuso.plans.printed_commands import commands_in
 from rekhuso.plans.steps import PlanStep
 from rekhuso.program.maps import altered
+from rekhuso.running import Run, running
 
 from tests.ceph_monitor import RECORDS, WORST, with_given
 from tests.clusters import CLUSTERS, STOCK, Json, copied, kept, pooled, raised, uneven
@@ -34,6 +35,17 @@ DRAINED, EVEN = "011-drained", "001-three-hosts"
 HELD = next(own for own in kept("holds.json.gz") if own["change"] == "out1")
 # A fault: what it is, where it is planted, and what stands there instead of what was there.
 Planted = tuple[str, Any, str, Callable[[Any], Any]]
+
+
+# What exceptions by chance go by: a set with an OSD that is out, or that no take reaches, breaks a step before that.
+CAUSES = {"chooseleaf", "choose", "take", "idle-set", "idle-pairs"}
+# What the tools call what the program says that no take of a rule reaches.
+OUTSIDE = {"unreached": "take"}
+
+
+def excepted(value: Json) -> list[str]:
+    """The groups of a map that have exceptions."""
+    return sorted({entry[0] for key in ("pg_upmap", "pg_upmap_items") for entry in value[key]})
 
 
 def none_of(_: Any) -> Any:
@@ -168,8 +180,8 @@ PLAN_FAULTS: list[Planted] = [
     ("pairs lead to another OSD", steps, "exception_commands", spoilt(first_spoilt(12))),
     ("a pair does nothing", steps, "exception_commands", spoilt(with_idle_pair)),
     ("two groups' commands are crossed", steps, "exception_commands", spoilt(crossed)),
-    ("the text lacks a command", plan_scripts.Script, "text", without_last),
-    ("the text has another command", plan_scripts.Script, "text", with_other_line),
+    ("the text lacks a command", plan_scripts.PlanScript, "text", without_last),
+    ("the text has another command", plan_scripts.PlanScript, "text", with_other_line),
 ]
 PAIR_FAULTS: list[Planted] = [
     ("pairs lead back", rounds, "settled", lambda own: lambda session, new: turned(own(session, new))),
@@ -178,7 +190,7 @@ PAIR_FAULTS: list[Planted] = [
 UNDO_FAULTS: list[Planted] = [
     ("a step is not taken back", PlanStep, "undone", undone_otherwise(forgetting)),
     ("a step is taken again", PlanStep, "undone", undone_otherwise(lambda own: altered_step(own, own.undo))),
-    ("the text lacks a command", plan_scripts.Script, "text", without_last),
+    ("the text lacks a command", plan_scripts.PlanScript, "text", without_last),
 ]
 
 
@@ -210,7 +222,9 @@ class Judged(StockCase):
         """What a command puts out, run in this process, and the fault in which it ends, if it does."""
         output = io.StringIO()
         options = parser().parse_args([*map(str, words), "--program", str(self.tools.program)])
-        with contextlib.redirect_stdout(output), contextlib.redirect_stderr(io.StringIO()):
+        heard: list[str] = []
+        run = Run(heard.append, lambda value: print(json.dumps(value)))
+        with contextlib.redirect_stdout(output), running(run):
             try:
                 options.work(options)
             except Fault as fault:
@@ -218,11 +232,11 @@ class Judged(StockCase):
         return output.getvalue(), None
 
     def is_refused(self, *words: object) -> None:
-        """Asks that a command ends in status 1, as by a defect of the tools, and puts out nothing."""
+        """Asks that a command ends in status 70, as by a defect of the tools, and puts out nothing."""
         output, fault = self.printed(*words)
         self.assertEqual(output, "")
         self.assertIsNotNone(fault)
-        self.assertEqual(fault.status if fault else 0, 1)
+        self.assertEqual(fault.status if fault else 0, 70)
         self.assertEnds(str(fault), "nothing is put out")
 
     def are_refused(self, faults: list[Planted], *words: object) -> None:
@@ -234,7 +248,7 @@ class Judged(StockCase):
                 self.is_refused(*words)
 
     def test_plans(self) -> None:
-        """Each fault in how `plan` makes its commands ends in status 1 and no command."""
+        """Each fault in how `plan` makes its commands ends in status 70 and no command."""
         files = self.dumps(EVEN)
         self.are_refused(PLAN_FAULTS, "plan", *files)
         self.are_refused(PLAN_FAULTS[:1], "plan", *files, "--json")
@@ -276,7 +290,7 @@ class Judged(StockCase):
         """So do faults in how `release` makes its commands."""
         own = WORST["four_hosts"]
         files = self.tools.put("o", own["osd_dump"]), self.tools.put("c", own["crush_dump"])
-        faults: list[Planted] = [("the text lacks a command", plan_scripts.Script, "text", without_last)]
+        faults: list[Planted] = [("the text lacks a command", plan_scripts.PlanScript, "text", without_last)]
         self.are_refused(faults, "release", *files)
         self.are_refused(UNDO_FAULTS[:1], "release", *files, "--undo")
 
@@ -289,7 +303,7 @@ class Judged(StockCase):
             ("a group goes twice", drain_command, "part_scripts", spoilt(with_first_again)),
             ("a part is missing", drain_command, "part_scripts", spoilt(lambda texts: texts[:-1])),
             ("a part comes twice", drain_command, "part_scripts", spoilt(lambda texts: [*texts, texts[0]])),
-            ("the text lacks a command", plan_scripts.Script, "text", without_last),
+            ("the text lacks a command", plan_scripts.PlanScript, "text", without_last),
             ("pairs lead to another OSD", drain, "exception_commands", spoilt(first_spoilt(12))),
         ]
         stages: list[Planted] = [
@@ -357,9 +371,15 @@ class Judged(StockCase):
 
     def left(self, value: Json) -> dict[str, str]:
         """What the program says of each group of a map that has exceptions."""
-        groups = {entry[0] for key in ("pg_upmap", "pg_upmap_items") for entry in value[key]}
         with Monitor(value, self.tools.program, stock=True) as monitor:
-            return monitor.left(sorted(groups))
+            return monitor.left(excepted(value))
+
+    def causes(self, value: Json) -> dict[str, str]:
+        """By what the program says that all exceptions of a group go, of each group of which they do."""
+        with Monitor(value, self.tools.program, stock=True) as monitor:
+            monitor.follow()
+            found = {group: monitor.follower_kept(group) for group in excepted(value)}
+        return {group: left.why.split(" ")[0] for group, left in found.items() if left.what == "gone"}
 
     def test_beside_a_monitor(self) -> None:
         """What a real monitor took away of exceptions that it was given, whole or in part, is what the program says."""
@@ -419,8 +439,8 @@ class Judged(StockCase):
                     yield from ((name, part["map"]) for part in json.loads(output)["maps"])
 
     def test_beside_the_tools(self) -> None:
-        """Of exceptions by chance over the clusters the program and the tools' own reading say the same."""
-        rng, seen = random.Random(82), dict.fromkeys(("all", "fewer", "gone"), 0)
+        """Of exceptions by chance over the clusters the program and the tools' own reading say the same, and why."""
+        rng, seen, causes = random.Random(82), dict.fromkeys(("all", "fewer", "gone"), 0), set[str]()
         for name, first in self.clusters():
             value = self.by_chance(first, rng)
             bare: Json = dict(raised(value), pg_upmap=[], pg_upmap_items=[])
@@ -432,4 +452,8 @@ class Judged(StockCase):
                 wanted = "gone" if group in own.gone else "fewer" if group in own.fewer else "all"
                 self.assertEqual(what, wanted, (name, group, own.gone.get(group), value["pg_upmap_items"]))
                 seen[what] += 1
+            for group, cause in self.causes(value).items():
+                self.assertEqual(OUTSIDE.get(cause, cause), own.gone[group].code, (name, group, own.gone[group]))
+                causes.add(cause)
         self.assertGreater(min(seen.values()), 50, seen)
+        self.assertEqual(causes, CAUSES)

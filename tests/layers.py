@@ -27,9 +27,10 @@ import layers as drawing  # noqa: E402
 
 PACKAGE = TOOLS / "rekhuso"
 # Each sub-package stands on those before it, and all of them on the modules beside them.
-LAYERS = ("program", "cluster", "plans", "output", "commands")
-ABOVE = {"__init__": 1, **dict.fromkeys(("command_line", "uses", "completions", "manuals"), len(LAYERS) + 1)}
-ABOVE["__main__"] = len(LAYERS) + 2
+LAYERS = ("program", "cluster", "plans", "output", "carry", "commands")
+ABOVE = dict.fromkeys(("command_line", "uses", "completions", "manuals", "library"), len(LAYERS) + 1)
+ABOVE["__init__"] = len(LAYERS) + 2
+ABOVE["__main__"] = len(LAYERS) + 3
 
 Import = tuple[pathlib.Path, pathlib.Path, str]
 
@@ -62,6 +63,27 @@ def value_classes() -> list[type]:
     return [own for own in found if inspect.isclass(own) and dataclasses.is_dataclass(own)]
 
 
+def is_class(node: ast.AST, name: str) -> bool:
+    """Whether a node is a class of a name."""
+    return isinstance(node, ast.ClassDef) and node.name == name
+
+
+def is_name(node: ast.AST, name: str) -> bool:
+    """Whether a node is a name by itself."""
+    return isinstance(node, ast.Name) and node.id == name
+
+
+def written(tree: ast.AST) -> Iterator[ast.Attribute]:
+    """The attributes that a tree sets, also where it sets an entry of one."""
+    for node in ast.walk(tree):
+        if isinstance(node, (ast.Attribute, ast.Subscript)) and isinstance(node.ctx, ast.Store):
+            own: ast.AST = node
+            while isinstance(own, ast.Subscript):
+                own = own.value
+            if isinstance(own, ast.Attribute):
+                yield own
+
+
 class Layers(unittest.TestCase):
     """Modules, their names and their values."""
 
@@ -76,14 +98,6 @@ class Layers(unittest.TestCase):
         """The picture of docs/DESIGN.md is that of crates.txt and of the imports of the tools"""
         self.assertIn(f"\n\n{drawing.picture(TOP)}\n", text("docs", "DESIGN.md"), "tools/layers.py draws it anew")
 
-    def test_table(self) -> None:
-        """What the table of docs/DESIGN.md names for a crate is among what crates.txt has for it"""
-        below = drawing.crates(TOP)
-        rows = re.findall(r"^\| `(\w+)` \|[^|]*\|([^|]*)\|", text("docs", "DESIGN.md"), re.MULTILINE)
-        named = {name: set(re.findall(r"`(\w+)`", cell)) & set(below) for name, cell in rows if name in below}
-        self.assertEqual(set(named), set(below))
-        self.assertEqual({name: on - below[name] for name, on in named.items() if on - below[name]}, {})
-
     def test_circles(self) -> None:
         """No modules take names from one another in a circle, also not where a function brings them in."""
         below: dict[pathlib.Path, set[pathlib.Path]] = defaultdict(set)
@@ -93,15 +107,38 @@ class Layers(unittest.TestCase):
 
     def test_names(self) -> None:
         """A name that a module takes from another is of one module, and a class has its name alone, so it means one
-        thing; but for `together.py`, which is one file by itself."""
+        thing; but for the cluster of `together.py`, which is one file by itself."""
         homes: dict[str, set[pathlib.Path]] = defaultdict(set)
         for _, other, name in imports():
             homes[name].add(other)
         self.assertEqual({name for name, places in homes.items() if len(places) > 1}, set())
-        files = [path for path in sorted(PACKAGE.rglob("*.py")) if path.name != "together.py"]
+        files = sorted(PACKAGE.rglob("*.py"))
         classes = Counter(name for file in files for name in re.findall(r"^class (\w+)", file.read_text(), re.M))
         self.assertGreater(len(classes), 100)
-        self.assertEqual([name for name, count in classes.items() if count > 1], [])
+        self.assertEqual([name for name, count in classes.items() if count > 1], ["Cluster"])
+
+    def test_doors(self) -> None:
+        """Each package says what it offers: what others take from it itself, and no name that it lacks."""
+        taken: dict[pathlib.Path, set[str]] = defaultdict(set)
+        for _, other, name in imports():
+            taken[other].add(name)
+        for file in sorted(PACKAGE.rglob("__init__.py")):
+            with self.subTest(package=str(file.parent.relative_to(TOOLS))):
+                package = importlib.import_module(".".join(file.parent.relative_to(TOOLS).parts))
+                self.assertEqual(taken[file] - {*package.__all__}, set())
+                self.assertEqual([name for name in package.__all__ if not hasattr(package, name)], [])
+
+    def test_owner(self) -> None:
+        """What changes of a map while its pools are planned is changed by its own methods alone."""
+        body = next(
+            own for own in ast.parse((PACKAGE / "plans" / "rounds.py").read_text()).body if is_class(own, "Live")
+        )
+        names = {own.attr for own in written(body)}
+        self.assertEqual([ast.unparse(own) for own in written(body) if not is_name(own.value, "self")], [])
+        self.assertGreater(len(names), 10)
+        for file in sorted((PACKAGE / "plans").glob("*.py")):
+            others = [own for own in written(ast.parse(file.read_text())) if not is_name(own.value, "self")]
+            self.assertEqual([own.lineno for own in others if own.attr in names], [], file.name)
 
     def test_values(self) -> None:
         """Values that stay as they are have slots, where Python makes them; they can be copied and kept."""

@@ -21,7 +21,7 @@ NUMBER = r"(\d(?:[\d,]*\d)?)"
 FILES = {
     "buckets": ("limits",),
     "crush": ("limits",),
-    "mapparts": ("limits", "plain"),
+    "mapparts": ("limits",),
     "balancer": ("limits",),
     "ticketlock": ("limits",),
     "epochlog": ("row",),
@@ -49,7 +49,7 @@ TOLD: list[tuple[str, str, str]] = [
         "and {} groups ({} in all)",
         f"{WIDE} mapparts.MAX_RULES mapparts.MAX_POOLS mapparts.MAX_SIZE mapparts.MAX_GROUPS mapparts.MAX_TOTAL_GROUPS",
     ),
-    ("README.md", "The headline holds for up to {} seats", "ticketlock.MAX_SEATS"),
+    ("docs/PROVED.md", "The headline holds for up to {} seats", "ticketlock.MAX_SEATS"),
     ("CHANGELOG.md", "straw2 buckets, up to {} OSDs, {} pools and rules", "buckets.MAX_DEVICES mapparts.MAX_POOLS"),
     ("docs/FORMATS.md", "| `version` | number: 1 or {} |", "mapparts.MAX_VERSION"),
     ("docs/FORMATS.md", "| `epoch` | number: 1 to {} |", "mapparts.MAX_FIRST_EPOCH"),
@@ -119,39 +119,39 @@ TOLD: list[tuple[str, str, str]] = [
     ("docs/FORMATS.md", "how many changes the journal holds: 1 to {}, and", "epochlog.MAX_CAPACITY"),
     ("docs/FORMATS.md", "serves at most {} scripts as `osdmapd` does", "server.MAX_SCRIPTS"),
     ("docs/FORMATS.md", "`--keep N` (0 to {};", "osdmapstore.MOST_KEPT"),
-    ("docs/CEPH.md", "as one map has at most {} pools", "mapparts.MAX_POOLS"),
-    ("docs/CEPH.md", "A round has at most {} moves a pool", "balancer.MAX_MOVES"),
+    ("docs/COMMANDS.md", "as one map has at most {} pools", "mapparts.MAX_POOLS"),
+    ("docs/COMMANDS.md", "A round has at most {} moves a pool", "balancer.MAX_MOVES"),
     (
-        "docs/CEPH.md",
+        "docs/COMMANDS.md",
         "| up to {} OSDs, and pools of up to size {} | come in where a bucket is straw2; over other buckets alone {} "
         "OSDs, and size {} |",
         "buckets.MAX_DEVICES crush.MAX_SIZE buckets.PLAIN_DEVICES mapparts.PLAIN_SIZE",
     ),
-    ("docs/CEPH.md", "| a straw2 bucket of up to {} items, in a flat root", "buckets.MAX_STRAWS"),
+    ("docs/COMMANDS.md", "| a straw2 bucket of up to {} items, in a flat root", "buckets.MAX_STRAWS"),
     (
-        "docs/CEPH.md",
+        "docs/COMMANDS.md",
         "| up to {} buckets and {} rules that pools use; pools of up to {} groups |",
         "crush.MAX_BUCKETS mapparts.MAX_RULES mapparts.MAX_GROUPS",
     ),
     (
-        "docs/CEPH.md",
+        "docs/COMMANDS.md",
         "over other buckets alone {} buckets, {} rules, and {} pools of up to {} groups each |",
         "crush.PLAIN_BUCKETS mapparts.PLAIN_RULES mapparts.PLAIN_POOLS mapparts.PLAIN_GROUPS",
     ),
     (
-        "docs/CEPH.md",
+        "docs/COMMANDS.md",
         "| more than {} pools, or than {} groups together;",
         "mapparts.MAX_POOLS mapparts.MAX_TOTAL_GROUPS",
     ),
-    ("docs/CEPH.md", "more than {} of those pools of a stock cluster", "mapparts.PLAIN_POOLS"),
+    ("docs/COMMANDS.md", "more than {} of those pools of a stock cluster", "mapparts.PLAIN_POOLS"),
     (
-        "docs/CEPH.md",
+        "docs/COMMANDS.md",
         "with more than {} items; a pool of a size above {}; OSDs from {} on |",
         "buckets.MAX_ITEMS crush.MAX_SIZE buckets.MAX_DEVICES",
     ),
     ("docs/LIBRARY.md", "how many moves at most (1 to {}),", "balancer.MAX_MOVES"),
     ("docs/PROVED.md", "of up to {} seats and any number of followers", "ticketlock.MAX_SEATS"),
-    ("docs/PROVED.md", "draw once, and at most {} of them", "session.LINES_IN_A_HOLD"),
+    ("docs/PROVED.md", "At most {} questions that follow one another", "session.LINES_IN_A_HOLD"),
     ("docs/DESIGN.md", "of up to {} seats and any number of followers", "ticketlock.MAX_SEATS"),
     ("docs/DESIGN.md", "{}, the most seats", "ticketlock.MAX_SEATS"),
     ("docs/DESIGN.md", "up to {} lines, and then the hold is given back", "session.LINES_IN_A_HOLD"),
@@ -233,7 +233,7 @@ class LimitsTold(Case):
             )
         self.assertEqual(map_forms.ITEMS, constant("buckets.MAX_ITEMS", self.texts))
         self.assertEqual(rounds.MOST_MOVES, constant("balancer.MAX_MOVES", self.texts))
-        self.assertEqual(stores.MOST, constant("epochlog.MAX_CAPACITY", self.texts))
+        self.assertEqual(stores.RUN_MOST, constant("epochlog.MAX_CAPACITY", self.texts))
 
     def test_raised(self) -> None:
         """A limit that is raised is not that of the pages any more"""

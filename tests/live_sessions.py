@@ -265,7 +265,7 @@ class LiveSessions(Case):
         self.assertEqual(answers[100_001], b"dump " + dump.encode())
 
     def test_memory_goes_back(self) -> None:
-        """What a long line and a long answer take of memory the process has no more once the answer is out. A program
+        """What a long line, change and answer take of memory the process has no more once the answer is out. A program
         with checks in place of proofs keeps what is given back."""
         if self.program.suffix == ".checked":
             self.skipTest("the program has checks in place of proofs")
@@ -278,6 +278,7 @@ class LiveSessions(Case):
             self.assertEqual((live.line(), live.ask("epoch")), ("session 1", "epoch 1"))
             before = live.memory()
             self.assertEqual(live.ask("x" * (8 << 20)), "err 33 BadCommand")
+            self.assertEqual(live.ask(f'change {{"x":"{"x" * (8 << 20)}"}}'), "err 11 BadField")
             answer = live.ask("ups 1")
             self.assertEqual((answer[:8], answer.count("[")), ("ups 1 1 ", 65536))
             self.assertLess(live.settled_memory(before + (2 << 20)) - before, 2 << 20)

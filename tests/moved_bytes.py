@@ -150,3 +150,31 @@ class MovedBytes(StockCase):
             status, output, error = self.tools.run(*command, "--df", df)
             self.assertEqual((status, output), (1, ""))
             self.assertIn(f"{df}: no pool 2", error)
+
+    def test_fuller_by_a_plan(self) -> None:
+        """Where the fullest OSD by bytes would be fuller by `--to-plan`, that is told, and refused without --anyway;
+        where it would not, nothing of it is told."""
+        self.own = RECORDS[WEIGHT]
+        dump = {**self.own["new_osd_dump"], **exceptions_told(**self.own["kept"])}
+        files = self.tools.put("held", dump), self.tools.put("crush", self.own["new_crush_dump"])
+        seen = set[bool]()
+        for seed in range(12):
+            rng = random.Random(seed)
+            sizes = {group: rng.choice((1, 1, 1, 30)) * GIB for group in groups_in(self.own)}
+            words = ["release", *files, "--to-plan", "--pgs", self.put_pgs(sizes)]
+            told = self.json(*words, "--anyway")["data"]
+            before, after = (round(told[key]["fullest"]["ratio"], 2) for key in ("before", "after"))
+            if after > before:
+                line = (
+                    f"by bytes the fullest OSD has {before:.2f} of its share, and would have {after:.2f} by this plan"
+                )
+                status, output, error = self.tools.run(*words)
+                self.assertEqual((status, output), (1, ""), error)
+                self.assertIn(line, error)
+                self.assertIn("nothing is released: --anyway does it nonetheless", error)
+            elif False not in seen:
+                self.assertNotIn("by this plan", self.ran(*words)[1])
+            seen.add(after > before)
+            if len(seen) == 2:
+                return
+        self.fail(f"all plans are alike: {seen}")

@@ -22,6 +22,9 @@ from collections.abc import Iterable, Iterator
 from tests.cases import EXAMPLE, TOP, Case, example
 from tests.clusters import CLUSTERS
 from tests.histories import TABLES, fill, rows, store_at
+from tests.pages import text
+from tests.releases import PACK, alone
+from tests.static_programs import LinkedCase
 from tests.tool_cases import AS_STORE
 
 TOOLS = TOP / "tools"
@@ -42,6 +45,7 @@ COMMANDS = [
     path.stem.rstrip("_") for path in (TOOLS / "rekhuso" / "commands").glob("*.py") if "def add_to(" in path.read_text()
 ]
 NAMED = ["bash-completion/completions/rekhuso", "zsh/site-functions/_rekhuso", "man/man1/rekhuso.1"]
+NAMED += ["fish/vendor_completions.d/rekhuso.fish"]
 NAMED += [f"man/man1/rekhuso-{command}.1" for command in COMMANDS]
 # What is brought in must change neither the path of modules nor what the plain names of modules mean.
 BROUGHT = """
@@ -53,6 +57,18 @@ for file in files:
     importlib.import_module(".".join(("rekhuso", *file.parts)))
 print(len(files) > 10, sys.path == path, sorted({file.stem for file in files} & set(sys.modules)))
 """
+# Makes a package for Debian of an archive, whichever its programs are.
+DEB = """
+import pathlib, sys, tempfile
+sys.path.insert(0, sys.argv[1])
+import packages
+from rekhuso.program.releases import files_in
+with tempfile.TemporaryDirectory() as folder:
+    root = pathlib.Path(folder, "root")
+    packages.lay_out(files_in(sys.argv[2]), root)
+    print(packages.deb(root, pathlib.Path(sys.argv[3])))
+"""
+DUMPS = [f"examples/ceph/{part}.json" for part in ("osd", "crush")]
 
 
 def shared(tools: pathlib.Path) -> dict[str, str]:
@@ -148,8 +164,11 @@ def commands_over(place: pathlib.Path) -> list[list[object]]:
         ["whatif", EXAMPLE, "--out", "3"],
         ["hold", *dumps, "--weight", "osd.3=1"],
         ["together", "--help"],
+        ["give", "--help"],
+        ["gather", "--help"],
         ["verify", "--help"],
         ["next", "--help"],
+        ["carry", "--help"],
         ["release", *dumps],
         ["drain", "--help"],
         ["explain", EXAMPLE, "1.0"],
@@ -158,6 +177,8 @@ def commands_over(place: pathlib.Path) -> list[list[object]]:
         ["shell", EXAMPLE],
         ["history", place / "store"],
         ["backup", place / "store", place / "copy", "--store-program", keeper],
+        ["proof", "--help"],
+        ["completion", "bash"],
     ]
 
 
@@ -325,7 +346,8 @@ class Packaged(Case):
             )
 
     def test_completions(self) -> None:
-        """bash completes commands, their own options, files and folders; zsh reads what is made for it."""
+        """bash completes commands, their own options, files and folders; zsh reads what is made for it, and ties it to
+        the command where it is sourced."""
         told = shared(TOOLS)
         script = told["share/bash-completion/completions/rekhuso"] + COMPLETES
         for words, wanted in (
@@ -335,7 +357,7 @@ class Packaged(Case):
             (["df", "--de"], ""),
             (["whatif", "--each", ""], ""),
             (["whatif", "--out", str(TOP / "exampl")], ""),
-            (["import", "--out", str(TOP / "exampl")], str(TOP / "examples")),
+            (["import", "--to", str(TOP / "exampl")], str(TOP / "examples")),
             (["hold", "--to", str(TOP / "LICEN")], str(TOP / "LICENSE")),
             (["help", "pl"], "plan"),
             (["he"], "help"),
@@ -350,26 +372,144 @@ class Packaged(Case):
             path = pathlib.Path(folder, "_rekhuso")
             path.write_text(told["share/zsh/site-functions/_rekhuso"])
             self.assertEqual(ran(["zsh", "-n", path]), (0, ""))
+            tied = f"autoload -Uz compinit; compinit -u -d {folder}/dump; source {path}; echo $_comps[rekhuso]"
+            self.assertEqual(ran(["zsh", "-f", "-c", tied]), (0, "_rekhuso\n"))
+
+    def test_completions_put_out(self) -> None:
+        """`completion` puts out for each shell the script that a package has."""
+        told = shared(TOOLS)
+        for shell, name in zip(("bash", "zsh", "fish"), (NAMED[0], NAMED[1], NAMED[3])):
+            with self.subTest(shell=shell):
+                self.assertEqual(
+                    ran([sys.executable, TOOLS / "rekhuso", "completion", shell]), (0, told[f"share/{name}"])
+                )
+
+    def test_completions_of_fish(self) -> None:
+        """fish completes commands, their own options, files and folders, each with what it is for."""
+        self.needs("fish", shutil.which("fish") is not None)
+        with tempfile.TemporaryDirectory() as folder:
+            path = pathlib.Path(folder, "rekhuso.fish")
+            path.write_text(shared(TOOLS)["share/fish/vendor_completions.d/rekhuso.fish"])
+            for line, wanted in (
+                ("pl", ["plan"]),
+                ("plan --de", ["--deviation"]),
+                ("df --de", []),
+                ("help dr", ["drain"]),
+                (f"import --to {TOP}/exampl", [f"{TOP}/examples/"]),
+                (f"hold --to {TOP}/LICEN", [f"{TOP}/LICENSE"]),
+                (f"df {TOP}/LICEN", [f"{TOP}/LICENSE"]),
+                ("whatif --each ", []),
+            ):
+                with self.subTest(line=line):
+                    words = ["env", f"HOME={folder}", "fish", "-c", f"source {path}; complete -C 'rekhuso {line}'"]
+                    status, said = ran(words)
+                    self.assertEqual((status, [own.split("\t")[0] for own in said.splitlines()]), (0, wanted))
+
+    def test_manuals_of_programs(self) -> None:
+        """The page of each program has each of its options, and each of its statuses that docs/FORMATS.md has"""
+        formats = text("docs", "FORMATS.md")
+        for name, head in (("osdmapd", "## The program"), ("osdmapstore", "## The program with a store")):
+            with self.subTest(name=name):
+                sources = [text("crates", *path) for path in (("cli", "src", "arguments.rt"), (name, "src", "line.rt"))]
+                wanted = set(re.findall(r'(?:\.long\(|_option\(alloc, |flag\(alloc, )"([\w-]+)"', "".join(sources)))
+                page = text("packages", f"{name}.1").replace("\\-", "-")
+                options = page.partition(".SH OPTIONS")[2].partition(".SH EXIT")[0]
+                found = re.findall(r"(?m)^\.TP\n(?:\.BR? |\\fB)(?:-\w \", \" )?--([\w-]+)", options)
+                self.assertEqual({*found}, wanted | {"help", "version"})
+                part = formats.partition(f"\n{head}\n")[2].partition("\n## ")[0]
+                statuses = re.findall(r"(?m)^\| ([0-9][0-9, to]*) \|", part)
+                told = page.partition(".SH EXIT STATUS")[2].partition(".SH")[0]
+                own = {*re.findall(r"[0-9]", "".join(re.findall(r"(?m)^\.TP\n([0-9, ]+)$", told)))}
+                self.assertEqual(own, {*re.findall("[0-9]", " ".join(statuses).replace("0 to 4", "0 1 2 3 4"))})
 
     def test_manuals(self) -> None:
         """The page of each command tells each of its options, and what reads manual pages finds no fault."""
-        pages = {path: text for path, text in shared(TOOLS).items() if "/man1/" in path}
+        pages = {path: page for path, page in shared(TOOLS).items() if "/man1/" in path}
         self.assertEqual({f"share/{name}" for name in NAMED if "/man1/" in name}, set(pages))
         for name in list(pages)[1:]:
             with self.subTest(name=name):
                 command = name.partition("rekhuso-")[2].partition(".")[0]
-                _, told = ran([sys.executable, TOOLS / "rekhuso", command, "--help"])
+                _, told = ran([sys.executable, TOOLS / "rekhuso", command, "--help", "--all"])
                 wanted = set(re.findall(r"(?m)^  (?:-h, )?(--[a-z-]+)", told))
                 found = set(re.findall(r"(?m)^\.TP\n(?:\\fB\\-h\\fR, )?\\fB(\S+)\\fR", pages[name]))
                 self.assertEqual({option.replace("\\-", "-") for option in found}, wanted)
-        table = re.findall(r"(?m)^\| ([0-9, ]+) \|[^|]+\|[^|]+\|$", (TOP / "docs" / "CEPH.md").read_text())
+        table = re.findall(r"(?m)^\| ([0-9, ]+) \|[^|]+\|[^|]+\|$", (TOP / "docs" / "COMMANDS.md").read_text())
         statuses = re.findall(r"(?m)^\.TP\n([0-9, ]+)$", "".join(pages.values()))
         self.assertEqual(set(", ".join(statuses).split(", ")), set(", ".join(table).split(", ")))
         self.needs("man", shutil.which("man") is not None)
-        for name, text in pages.items():
+        pages.update({name: text("packages", name) for name in ("osdmapd.1", "osdmapstore.1")})
+        for name, page in pages.items():
             with self.subTest(name=name), tempfile.TemporaryDirectory() as folder:
                 path = pathlib.Path(folder, "page.1")
-                path.write_text(text)
+                path.write_text(page)
                 words = ["env", "MANROFFSEQ=", "man", "--warnings=w", "-E", "UTF-8", "-l", "-Tutf8", "-Z", path]
                 status, said = ran(words)
                 self.assertEqual((status, "warning" in said), (0, False), said[-300:])
+
+
+class Installed(LinkedCase):
+    """The package for Debian in a root of its own."""
+
+    def package(self, folder: pathlib.Path, program: bytes) -> pathlib.Path:
+        """The package with a program, made in a folder."""
+        self.needs("dpkg-deb", shutil.which("dpkg-deb") is not None)
+        (folder / "osdmapd").write_bytes(program)
+        (folder / "gate.log").write_text("no gate\n")
+        words = [sys.executable, "-c", PACK, TOOLS, folder / "gate.log", folder, folder / "osdmapd"]
+        archive = self.told(words).strip()
+        return pathlib.Path(self.told([sys.executable, "-c", DEB, TOOLS, archive, folder]).strip())
+
+    def told(self, words: Iterable[object]) -> str:
+        """The output of a command that ends with status 0."""
+        status, told = ran(words)
+        self.assertEqual(status, 0, told[-900:])
+        return told
+
+    def check_first_commands(self, *inside: object, root: pathlib.Path) -> None:
+        """Asks that README's first commands answer below a root as they do here."""
+        there = pathlib.Path("/", "usr/share/doc/rekhuso") if inside else root / "usr/share/doc/rekhuso"
+        where = pathlib.Path("/") if inside else root
+        own = [sys.executable, TOOLS / "rekhuso"]
+        for words in (["df", *DUMPS], ["whatif", *DUMPS, "--each", "host"], ["check", "examples/map.json"]):
+            paths = [TOP / word if "/" in word else word for word in words]
+            here = self.told([*own, *paths, "--program", self.program])
+            files = [there / word if "/" in word else word for word in words]
+            found = self.told([*inside, "env", f"PATH={where / 'usr/bin'}:/usr/bin:/bin", "rekhuso", *files])
+            self.assertEqual(found.replace(str(there), str(TOP)), here)
+        scripts = [there / "examples" / name for name in ("map.json", "script.txt")]
+        self.assertEqual(self.told([*inside, where / "usr/bin/osdmapd", *scripts]), text("examples", "answers.txt"))
+
+    def test_unpacked(self) -> None:
+        """What it puts below a root answers, and has pages, completions, the unit and what was said of the program"""
+        with tempfile.TemporaryDirectory() as name:
+            folder = pathlib.Path(name).resolve()
+            root = folder / "root"
+            self.told(["dpkg-deb", "-x", self.package(folder, alone(self.program)), root])
+            self.check_first_commands(root=root)
+            pages = {path.name for path in (root / "usr/share/man/man1").iterdir()}
+            names = ["osdmapd", "osdmapstore", *(path.stem for path in map(pathlib.Path, NAMED) if path.suffix == ".1")]
+            self.assertEqual(pages, {f"{name}.1.gz" for name in names})
+            for path in ("share/bash-completion/completions/rekhuso", "share/zsh/vendor-completions/_rekhuso"):
+                self.assertTrue((root / "usr" / path).is_file(), path)
+            unit = root / "usr/lib/systemd/system/osdmapstore.service"
+            self.assertEqual(unit.read_text(), text("packages", "osdmapstore.service"))
+            plan = self.told(
+                ["env", f"PATH={root / 'usr/bin'}:/usr/bin:/bin", "rekhuso", "plan", *map(TOP.joinpath, DUMPS)]
+            )
+            self.assertIn("#         which was proved at commit ", plan)
+
+    def test_installed(self) -> None:
+        """On a system with an older C library it is installed, its first commands answer, and it goes again"""
+        older = pathlib.Path(os.environ.get("OLDER_ROOT", "/nonexistent"))
+        self.needs("OLDER_ROOT: a folder with an older C library", older.is_dir() and os.geteuid() == 0)
+        with tempfile.TemporaryDirectory() as name:
+            folder = pathlib.Path(name).resolve()
+            root = folder / "root"
+            self.told(["cp", "-a", "--reflink=auto", older, root])
+            shutil.copy(self.package(folder, self.linked(self.program).read_bytes()), root / "tmp/rekhuso.deb")
+            inside = ["chroot", root]
+            self.told([*inside, "dpkg", "-i", "/tmp/rekhuso.deb"])
+            self.assertStarts(self.told([*inside, "getent", "passwd", "osdmap"]), "osdmap:")
+            self.check_first_commands(*inside, root=root)
+            self.told([*inside, "dpkg", "-r", "rekhuso"])
+            self.assertFalse((root / "usr/share/rekhuso").exists())

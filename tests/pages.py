@@ -1,4 +1,4 @@
-"""The pages say what stands in the repository: the program of docs/LIBRARY.md, the function of README.md, names,
+"""The pages say what stands in the repository: the program of docs/LIBRARY.md, the function of docs/PROVED.md, names,
 calls, targets, options, files, links, crates and their files, the chain of proofs, and the edits that
 must not prove. Figures are those of figures.py."""
 
@@ -10,15 +10,16 @@ import re
 import unittest
 
 from rekhuso.commands import COMMANDS
-from rekhuso.program import maps
-from rekhuso.program.map_forms import PARTS, REFUSALS
+from rekhuso.program.map_forms import REFUSALS
 
 from tests.cases import TOP, Case
 
 # Names of other libraries, and of Ceph's options, that a page speaks of and no file has.
 OF_OTHERS = {"dedup_by", "BufRead", "upmap_max_deviation"}
-# Options of the kit, of Python's tools, of valgrind and of Ceph's tools that pages speak of.
+# Options of the kit, of Python's tools, of valgrind, of Debian and of Ceph's tools that pages speak of.
 OPTIONS_OF_OTHERS = {
+    "--include",
+    "--variant",
     "--allow-holes",
     "--dump",
     "--anew",
@@ -26,9 +27,11 @@ OPTIONS_OF_OTHERS = {
     "--format",
     "--jobs",
     "--list-axioms",
+    "--map",
     "--long",
     "--only",
     "--reweight-item",
+    "--sources",
     "--set-chooseleaf-stable",
     "--set-chooseleaf-vary-r",
     "--table",
@@ -71,54 +74,14 @@ OTHER_NAMES = {
 }
 # What a command line has of itself.
 OF_PARSERS = {"--help", "--version"}
-# The lists of places in CONTRIBUTING.md: of each the enums whose variants are looked for, and where each is declared.
-# Out of memory is not looked for: it stands wherever a call allocates.
-COMMAND, REPLY, QUESTION = "session/src/command.rt", "session/src/reply.rt", "monitor/src/question.rt"
-LISTS = {
-    "A kind of bucket": {"BucketKind": "buckets/src/bucket.rt"},
-    "A line of a script": {
-        "Question": QUESTION,
-        "Answer": QUESTION,
-        "Command": COMMAND,
-        "Task": COMMAND,
-        "Reply": REPLY,
-    },
-    "A refusal": {"Refusal": "refusal/src/refused.rt"},
-}
-NOT_LOOKED_FOR = {"Memory"}
-# The words of each list, but for those that mean other things elsewhere, and what share of them a file of the tools,
-# the tests, the benches or the pages has at least between quotes or by itself if it is a place of the list.
-KEY_OF_MAP = "A key of a map"
-PART_OF_CHANGE = "A part of a change"
 CHANGE = ("maptypes", "src", "change.rt")
-# The types of what has keys of a map, by the files that declare them: what is stated of one, and what it has of an OSD.
-TYPES_OF_KEYS = {
-    "MapParts": "mapparts/src/parts.rt",
-    "OsdPart": "mapparts/src/parts.rt",
-    "PoolPart": "mapparts/src/parts.rt",
-    "OsdState": "maptypes/src/osd.rt",
-}
-# The records of a map and of a pool, each with the struct that it is seen of, by the files that declare them.
-RECORDS_OF_KEYS = {
-    ("ClusterMap", "OsdMap"): "osdmap/specs/Maps.antt",
-    ("PoolFacts", "Pool"): "maptypes/specs/Pools.antt",
-}
-CHANGE_KEYS = " ".join({*PARTS} - {"up"})
-MAP_KEYS = " ".join(
-    {*maps.Map.__annotations__, *maps.Pool.__annotations__, *maps.Osd.__annotations__}
-    - {"version", "epoch", "id", "kind", "rule", "size", "up", "weight"}
-)
-LINES = "up ups count groups epoch dump change apply await balance follow fup fups fkept fdump"
-WORDS_OF_LISTS = {
-    "A kind of bucket": ("uniform list tree straw2", 0.75),
-    "A line of a script": (LINES, 0.6),
-    PART_OF_CHANGE: (CHANGE_KEYS, 0.6),
-    KEY_OF_MAP: (MAP_KEYS, 0.75),
-}
 # What the page of a crate has.
 PARTS_OF_PAGES = ["Parts", "A caller", "Proved", "Tested", "Not promised"]
 DIGITS = "one two three four five six seven eight nine ten eleven".split()
 RESULTS = TOP / "bench" / "results"
+# The pages whose sentences are short, and how many words one has at most.
+SHORT = ("CEPH.md", "COMMANDS.md", "REASONS.md", "PROVED.md", "FORMATS.md", "LIVE.md", "LIBRARY.md")
+MOST_WORDS = 35
 NUMBERS = {word: str(number) for number, word in enumerate(DIGITS, 1)}
 NUMBER = r"\d(?:[\d,]*\d)?(?:\.\d+)?"
 
@@ -172,6 +135,17 @@ def stands_on() -> dict[str, set[str]]:
     return {name: crates.intersection(below.split()) for name, below in lines}
 
 
+def sentences(page: pathlib.Path) -> list[str]:
+    """The sentences of a page, tables and blocks of code aside; what stands between backticks is a word."""
+    found = []
+    for block in re.split(r"\n\s*\n|\n(?=\s*(?:[-*] |\d+\. ))", page.read_text(encoding="utf-8")):
+        if not re.match(r" {4}(?!\s*[-*] )", block):
+            lines = [line for line in block.splitlines() if not line.lstrip().startswith(("|", "#"))]
+            bare = re.sub(r"`[^`]*`", "`_`", " ".join(" ".join(lines).split()))
+            found += re.split(r"(?<=[.!?:])\*{0,2}\)?\s+", bare)
+    return found
+
+
 def code_of(page: pathlib.Path) -> str:
     """What a page shows as code: between backticks, and in blocks."""
     shown = page.read_text(encoding="utf-8")
@@ -202,23 +176,6 @@ def sources() -> dict[pathlib.Path, str]:
     }
 
 
-@functools.lru_cache(None)
-def sources_of_things() -> dict[pathlib.Path, str]:
-    """The sources but for tests and the folders of functions, which have any kind of thing and are no places of one."""
-    texts = sources()
-    tests = {
-        (path.parent if path.stem in ("lib", "main") else path.with_suffix("")) / name
-        for path, source in texts.items()
-        for name in re.findall(r"#\[cfg\(test\)\]\s*mod (\w+);", source)
-    }
-    return {
-        path: re.split(r"#\[cfg\(test\)\]\s*mod \w+ {", source)[0]
-        for path, source in texts.items()
-        if not tests & {path.with_suffix(""), *path.parents}
-        and ("proofs" not in path.parts or path.parent.name == "proofs")
-    }
-
-
 def declared() -> tuple[set[str], set[str]]:
     """The functions of the sources; and with them all else that they declare: types, modules, definitions."""
     texts = sources()
@@ -246,32 +203,6 @@ def members() -> dict[str, set[str]]:
     return found
 
 
-def listed(heading: str) -> set[pathlib.Path]:
-    """The files that a list of CONTRIBUTING.md names. A bare name in a crate's brackets is a file of src/ with the
-    files below it, and one in other brackets a file of Python."""
-    lines = found_in(rf"^### {heading}\n(.*?)(?=^##)", text("CONTRIBUTING.md"), re.MULTILINE | re.DOTALL)
-    files: set[pathlib.Path] = set()
-    for owner, names in re.findall(r"`([\w/]+)` \(([^)]*)\)", " ".join(lines.split())):
-        for name in re.findall("`([^`]+)`", names):
-            crate = TOP / "crates" / owner
-            if "." in name:
-                files.add((crate if crate.exists() else TOP / owner) / name)
-            elif crate.exists():
-                files |= {crate / "src" / f"{name}.rt", *(crate / "src" / name).rglob("*.rt")}
-            else:
-                files.add(TOP / owner / f"{name}.py")
-    return files | {TOP / name for name in re.findall(r"\b(?:\w+/)*[A-Z]+\.md\b", lines)}
-
-
-def beside_crates() -> dict[pathlib.Path, str]:
-    """The files of the tools, the tests and the benches, and the pages with those of crates, each with its text."""
-    found = [
-        path for folder in ("tests", "bench") for end in ("py", "json") for path in (TOP / folder).glob(f"*.{end}")
-    ]
-    found += [*(TOP / "tools" / "rekhuso").rglob("*.py"), *(TOP / "docs").glob("*.md"), TOP / "README.md"]
-    return {path: path.read_text("utf-8") for path in [*found, *pages_of_crates()] if path.stem != "pages"}
-
-
 def options_of_programs() -> list[str]:
     """The options of the programs, without their hyphens."""
     files = (("cli", "arguments"), ("osdmapd", "line"), ("osdmapstore", "line"))
@@ -279,71 +210,10 @@ def options_of_programs() -> list[str]:
     return re.findall(r'(?:\.long\(|_option\(alloc, |flag\(alloc, )"([\w-]+)"', "".join(lines))
 
 
-def has_most(source: str, words: list[str], share: float, flags: int = re.M) -> bool:
-    """Whether a text has at least a share of some words, each behind a quote or as the name of a field."""
-    return sum(bool(re.search(rf"[\"'`\\]{word}\b|^ *{word}: ", source, flags)) for word in words) >= share * len(words)
-
-
 def body_of(kind: str, declaration: str) -> str:
     """What stands between the braces of an enum or a struct."""
     head = rf"^pub(?:\(crate\))? (?:enum|struct) {kind}(?:<[^>]*>)? {{\n(.*?)^}}"
     return found_in(head, declaration, re.MULTILINE | re.DOTALL)
-
-
-def code_in(path: pathlib.Path, source: str) -> str:
-    """A source of a crate without its comments and the parts of changes, which have names of keys."""
-    parts = "|".join(re.escape(part) for names in families().values() for part in names)
-    return re.sub(rf"{'//' if path.suffix == '.rt' else '--'}.*|\b(?:{parts})\b", "", source)
-
-
-@functools.lru_cache(None)
-def keys_of_types() -> dict[str, list[str]]:
-    """The fields of each type of what has keys of a map."""
-    return {
-        kind: re.findall(r"^    pub (\w+): ", body_of(kind, text("crates", *file.split("/"))), re.MULTILINE)
-        for kind, file in TYPES_OF_KEYS.items()
-    }
-
-
-@functools.lru_cache(None)
-def keys_of_records() -> dict[tuple[str, str], list[str]]:
-    """The fields of the records of a map and of a pool."""
-    found = {}
-    for names, file in RECORDS_OF_KEYS.items():
-        head = rf"^pub record {names[0]} : .*\n((?:  pub .*\n)+)"
-        body = found_in(head, text("crates", *file.split("/")), re.MULTILINE)
-        found[names] = re.findall(r"^  pub (\w+)", body, re.MULTILINE)
-    return found
-
-
-def used_of(code: str, fields: list[str], use: str) -> int:
-    """How many of some fields code uses in a way."""
-    return sum(bool(re.search(use.format(field), code)) for field in fields)
-
-
-def has_keys(code: str) -> bool:
-    """Whether code has a type of what maps have with two of its keys at least, as a source of one has no place for
-    others; or sets, states or matches all fields of the record of a map or of a pool, or most of one that it names."""
-    used, said = r"\.{0}\b|\b{0}(?: ?[=:](?![=:])|,|\s*}})", r"\b{0} ?[=:](?![=:])"
-    if any(re.search(rf"\b{kind}\b", code) and used_of(code, own, used) > 1 for kind, own in keys_of_types().items()):
-        return True
-    for names, fields in keys_of_records().items():
-        share = 0.75 if re.search(rf"\b(?:{'|'.join(names)})\b", code) else 1
-        if used_of(code, fields, said) >= share * len(fields):
-            return True
-    return False
-
-
-def looked_for(kind: str, declaration: str) -> set[str]:
-    """The variants of an enum, but for those that are not looked for."""
-    return set(re.findall(r"^    ([A-Z]\w+)", body_of(kind, declaration), re.MULTILINE)) - NOT_LOOKED_FOR
-
-
-def named_in(source: str, kind: str, names: set[str]) -> set[str]:
-    """Which of the names a source has: a variant by its path or in an import."""
-    imports = re.findall(rf"\b{kind}\.TheVariants(?:\.{{([^}}]*)}}| as )", source)
-    found = re.findall(rf"\b{kind}::(\w+)", source) + re.findall(r"(?:^|,)\s*(\w+)", "\n".join(imports), re.MULTILINE)
-    return names if "" in imports else names.intersection(found)
 
 
 @functools.lru_cache(None)
@@ -356,15 +226,6 @@ def families() -> dict[str, list[str]]:
         fields = re.findall(r"^    pub (\w+): ", body_of(kind, theirs), re.MULTILINE)
         parts.setdefault(kind, []).extend(f"{field}.{name}" for name in fields)
     return parts
-
-
-def families_in(source: str) -> set[str]:
-    """The families that a source names: by the type, or by a part."""
-    return {
-        kind
-        for kind, parts in families().items()
-        if re.search("|".join(rf"\b{re.escape(name)}\b" for name in (kind, *parts)), source)
-    }
 
 
 class Pages(Case):
@@ -380,9 +241,9 @@ class Pages(Case):
                 lines = text("crates", "library_example", name).splitlines(keepends=True)
                 self.assertIn("".join(f"    {line}" if line.strip() else line for line in lines), page, name)
 
-    def test_function_of_the_readme(self) -> None:
-        """The function that README.md reads aloud stands in its crate as it is shown, but for an attribute"""
-        shown = text("README.md").split("## One function, read aloud\n\n")[1].split("\n\n")[0]
+    def test_function_read_aloud(self) -> None:
+        """The function that docs/PROVED.md reads aloud stands in its crate as it is shown, but for an attribute"""
+        shown = text("docs", "PROVED.md").split("## One function, read aloud\n\n")[1].split("\n\n")[0]
         source = re.sub(r"^ *#\[tactic\(.*\n", "", text("crates", "osdmap", "src", "placement.rt"), flags=re.MULTILINE)
         self.assertStarts(shown, "    /// ")
         self.assertIn(f"{shown}\n    {{\n", source)
@@ -441,13 +302,13 @@ class Pages(Case):
         self.assertFalse(idle, (unknown, idle))
 
     def test_tools(self) -> None:
-        """tools/README.md has a row for each command, in the order of the help; docs/CEPH.md names each option of the
-        tools, but for those that they hand to a program"""
+        """tools/README.md has a row for each command, in the order of the help; docs/COMMANDS.md names each option of
+        the tools, but for those that they hand to a program"""
         self.assertEqual(re.findall(r"^\| `(\w+)` \| `commands/", text("tools", "README.md"), re.M), [*COMMANDS])
         code = "".join(path.read_text("utf-8") for path in (TOP / "tools" / "rekhuso").rglob("*.py"))
         own = {*re.findall(r'"(--[a-z][\w-]*)"', code)} - {f"--{name}" for name in options_of_programs()} - OF_PARSERS
         self.assertGreater(len(own), 20)
-        self.assertFalse(own - {*re.findall(r"(?<![\w-])--[a-z][\w-]*", text("docs", "CEPH.md"))}, "are not named")
+        self.assertFalse(own - {*re.findall(r"(?<![\w-])--[a-z][\w-]*", text("docs", "COMMANDS.md"))}, "are not named")
 
     def test_files(self) -> None:
         """Each file of the repository that a page names is there"""
@@ -497,86 +358,6 @@ class Pages(Case):
         self.assertGreater(len(crates), 20, (floors ^ crates, layers ^ crates))
         self.assertEqual(floors, layers, (floors ^ crates, layers ^ crates))
         self.assertEqual(layers, crates, (floors ^ crates, layers ^ crates))
-
-    def test_lists_of_places(self) -> None:
-        """Each file that a list of CONTRIBUTING.md names is there, and each file of a crate that has a kind of bucket,
-        a line of a script or a refusal is in the list of its kind; but for tests and the folders of functions"""
-        texts = sources_of_things()
-        for heading, kinds in LISTS.items():
-            places = listed(heading)
-            missing = {str(path.relative_to(TOP)) for path in places if not path.exists()}
-            self.assertFalse(missing, f"are listed for {heading} and not there")
-            for kind, declaration in kinds.items():
-                with self.subTest(list=heading, kind=kind):
-                    names = looked_for(kind, text("crates", declaration))
-                    found = {path: named_in(source, kind, names) for path, source in texts.items()}
-                    unlisted = {
-                        (str(path.relative_to(TOP)), *sorted(has))
-                        for path, has in found.items()
-                        if has and path not in places
-                    }
-                    self.assertEqual(set().union(*found.values()), names)
-                    self.assertFalse(unlisted, f"have names of {kind} and are not listed for {heading}")
-
-    def test_places_of_a_part(self) -> None:
-        """Each file of a crate that names two families of the parts of a change is in the list of their places: a file
-        of one family has no place for another"""
-        found = {path: families_in(source) for path, source in sources_of_things().items()}
-        self.assertGreater(len(families()), 2)
-        self.assertEqual(set().union(*found.values()), set(families()))
-        places = listed(PART_OF_CHANGE)
-        several = {path for path, has in found.items() if len(has) > 1}
-        self.assertFalse(sorted(str(path.relative_to(TOP)) for path in several - places), "are not listed")
-
-    def test_places_beside_crates(self) -> None:
-        """Each file of the tools, the tests, the benches and the pages that has most of the keys of a map or a change,
-        of the kinds of buckets, of the lines or of the refusals is in the list of its kind, as each file of a crate is
-        that has keys of what maps have, or with its tests most of the keys of a map or a change"""
-        texts, crates = beside_crates(), sources_of_things()
-        whole = {path: source for path, source in sources().items() if path.stem not in ("Answers", "Invariants")}
-        names = re.findall(r"^\| \d+ \| `?(\w+)`? \|", text("docs", "FORMATS.md"), re.MULTILINE)
-        self.assertGreater(len(names), 20)
-        for heading, (words, share) in [*WORDS_OF_LISTS.items(), ("A refusal", (" ".join(names), 0.6))]:
-            with self.subTest(list=heading):
-                form = [
-                    path
-                    for path, source in texts.items()
-                    if has_most(source, words.split(), share, re.M | re.I if "crates" in path.parts else re.M)
-                ]
-                if heading == "A refusal":
-                    form = [
-                        path
-                        for path, source in texts.items()
-                        if len(set(names).intersection(re.findall(r"\w+", source))) >= share * len(set(names))
-                    ]
-                if heading in (KEY_OF_MAP, PART_OF_CHANGE):
-                    form += [path for path, source in whole.items() if has_most(source, words.split(), share)]
-                if heading == KEY_OF_MAP:
-                    form += [path for path, source in crates.items() if has_keys(code_in(path, source))]
-                places = listed(heading)
-                self.assertTrue(form)
-                self.assertFalse({str(path.relative_to(TOP)) for path in places if not path.exists()}, "are not there")
-                self.assertFalse(sorted(str(path.relative_to(TOP)) for path in set(form) - places), "are not listed")
-
-    def test_places_of_options(self) -> None:
-        """Each file of a crate that has an option of a program, or the type of all, is in the list of options, as each
-        other file is that has half of them; but for the word of a table of stores, and for tests"""
-        places, own = listed("An option of a program"), options_of_programs()
-        words = "|".join(sorted({*own} - {"journal"}))
-        crates = {
-            path
-            for path, source in sources_of_things().items()
-            if re.search(rf'"(?:{words})"|\b(?:Session)?Options\b', source)
-        }
-        beside = {
-            path
-            for path, source in beside_crates().items()
-            if sum(bool(re.search(rf"--{word}(?![\w-])", source)) for word in own) >= len(own) / 2
-        }
-        self.assertGreater(len(crates), 10)
-        self.assertGreater(len(beside), 3)
-        self.assertFalse({str(path.relative_to(TOP)) for path in places if not path.exists()}, "are not there")
-        self.assertFalse(sorted(str(path.relative_to(TOP)) for path in (crates | beside) - places), "are not listed")
 
     def test_reasons_of_stores(self) -> None:
         """docs/FORMATS.md tells each reason for which a store is not opened or fails, and no other"""
@@ -740,6 +521,21 @@ class Pages(Case):
             if len(line) > 132 and not line.startswith("|")
         ]
         self.assertFalse(wide)
+
+    def test_sentences(self) -> None:
+        """A sentence of a page on what is proved, or on how the program and tools are used, has at most 35 words"""
+        for name in SHORT:
+            told = sentences(TOP / "docs" / name)
+            self.assertGreater(len(told), 20)
+            self.assertEqual([one for one in told if len(one.split()) > MOST_WORDS], [], name)
+
+    def test_guide(self) -> None:
+        """docs/CEPH.md, the guide of operators, has at most 4,000 words, and no sentence of the pages on commands and
+        on reasons"""
+        self.assertLessEqual(len(text("docs", "CEPH.md").split()), 4000)
+        guide, *others = ({*sentences(TOP / "docs" / f"{name}.md")} for name in ("CEPH", "COMMANDS", "REASONS"))
+        for other in others:
+            self.assertEqual({one for one in guide & other if len(one.split()) > 5}, set())
 
     def test_edits(self) -> None:
         """The table of wrong bodies in docs/PROVED.md names each edit that must not prove, at its crate, and which of

@@ -44,7 +44,7 @@ def exceptions(value: Json) -> tuple[Any, Any]:
 
 def told_of(text: str) -> Told:
     """What a script tells above its commands, and the rows of its two tables, each by its last word."""
-    above = [line for line in text.splitlines() if line.startswith("#")]
+    above = [line for line in text.splitlines() if line.startswith("# ") and not line.startswith("# rekhuso: end")]
     at, by = above.index("# What moves, by pool:"), above.index("# By OSD, in places of groups:")
     pools, osds = (
         {words[-1]: words[:-1] for words in (line[2:].split() for line in part)}
@@ -111,7 +111,7 @@ class PlanScripts(ToolCase):
                 files, value = self.dumped(name)
                 for words in (files, [self.tools.put("m", value)]):
                     lines, back = (
-                        commands(self.tools.run("plan", *words, "--max", 60, *more)[1]) for more in ((), ("--undo",))
+                        commands(self.tools.run("plan", *words, "--first", 60, *more)[1]) for more in ((), ("--undo",))
                     )
                     self.assertTrue([line.split(" ")[3] for line in lines if "rm-" not in line][:3], (lines, back))
                     self.assertNotEqual(lines, back)

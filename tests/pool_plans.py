@@ -42,6 +42,11 @@ def farthest(value: Json, host_of: dict[int, int], weight_of: dict[int, int], ma
     return max((abs(counts[osd] - Fraction(groups * weights[osd], total)) for osd in weights), default=Fraction(0))
 
 
+def inner(script: str) -> str:
+    """A script without what it is made of, which stands before its line on the balancer, and without the sum of all."""
+    return script[script.index("# before: ") :].partition("# rekhuso: end, ")[0]
+
+
 class PoolPlans(ToolCase):
     """What `plan` does of a pool."""
 
@@ -96,10 +101,10 @@ class PoolPlans(ToolCase):
         """A number of commands or moves that is none, a deviation that is none or has no plan, and a third file are
         errors of use."""
         path = self.tools.put("m", self.tools.map("009-classes"))
-        wrong = [("--max", word) for word in ("0", "-1", "many")] + [
+        wrong = [("--first", word) for word in ("0", "-1", "many")] + [
             ("--deviation", word) for word in ("-1", "x", "1/0", "0.49", "65537")
         ]
-        for words in [*wrong, ("--max", "1025", "--alone"), ("--deviation", "65537", "--alone")]:
+        for words in [*wrong, ("--first", "1025", "--alone"), ("--deviation", "65537", "--alone")]:
             with self.subTest(words=words):
                 status, output, error = self.tools.run("plan", path, *words)
                 self.assertEqual((status, output), (2, ""), (words, status, error))
@@ -115,29 +120,28 @@ class PoolPlans(ToolCase):
         status, output, error = self.tools.run("import", *dumps, "--names", "names")
         self.assertEqual(status, 0, error)
         path = self.tools.put("m", output)
-        by_id = self.tools.run("plan", path, "--pool", "1", "--no-guard")
+        by_id = self.tools.run("plan", path, "--of-pool", "1", "--no-guard")
         self.assertEqual(by_id[0], 0)
         self.assertTrue(by_id[1], by_id)
         self.assertStarts(pool_lines(by_id[2])[0], "pool 1: ")
-        named = self.tools.run("plan", path, "--names", "names", "--pool", name)
+        named = self.tools.run("plan", path, "--names", "names", "--of-pool", name)
         self.assertEqual(commands(named[1]), commands(by_id[1]))
         self.assertEqual(named[2], by_id[2].replace("pool 1: ", f"{name}: "))
-        of_dumps = self.tools.run("plan", *dumps, "--pool", name, "--no-guard")
+        of_dumps = self.tools.run("plan", *dumps, "--of-pool", name, "--no-guard")
         self.assertEqual((commands(of_dumps[1]), of_dumps[2]), (commands(by_id[1]), named[2]))
         # A map does not tell which release clients have, so its script says when not to set one.
         unsure = [line for line in by_id[1].splitlines(keepends=True) if "get-require-min-compat-client" in line]
         self.assertEqual(len(unsure), 1)
-        # What a script is made of stands in its first lines, up to the one on the balancer.
-        told, wanted = (script[script.index("# before: ") :] for script in (of_dumps[1], by_id[1]))
+        told, wanted = (inner(script) for script in (of_dumps[1], by_id[1]))
         self.assertEqual(told.replace(f"  {name}\n", "  pool 1\n"), wanted.replace(unsure[0], ""))
         bare = {key: value for key, value in json.loads(output).items() if not key.startswith("pg_upmap")}
         for words in ((), ("--deviation", "1")):
             with self.subTest(words=words):
                 given = [self.tools.put("bare", bare), path]
                 runs = [self.tools.run("plan", one, *words) for one in given]
-                of_bare, of_whole = ((code, script[script.index("# before: ") :], why) for code, script, why in runs)
+                of_bare, of_whole = ((code, inner(script), why) for code, script, why in runs)
                 self.assertEqual(of_bare, of_whole)
-        for words in (("--pool", name), ("--names", "names", "--pool", "nobody"), ("--pool", "2")):
+        for words in (("--of-pool", name), ("--names", "names", "--of-pool", "nobody"), ("--of-pool", "2")):
             with self.subTest(words=words):
                 status, output, error = self.tools.run("plan", path, *words)
                 self.assertEqual((status, output, error), (1, "", f"no pool {words[-1]}\n"))
@@ -166,7 +170,7 @@ class PoolPlans(ToolCase):
 
     def test_deviation(self) -> None:
         """A pool's plan by itself with a deviation is the shortest beginning of the greedy plan, reckoned by brute
-        force, that comes so near, beside --max."""
+        force, that comes so near, beside --first."""
         rng, lengths = random.Random(5), set()
         for case in range(10):
             value, host_of, rack_of, weight_of = plans.random_map(rng)
@@ -177,7 +181,7 @@ class PoolPlans(ToolCase):
             wanted = min(near[0] if near else whole, limit)
             lengths.add((wanted, whole))
             status, output, error = self.tools.run(
-                "plan", self.tools.put("m", value), "--alone", "--deviation", most, "--max", limit, "--anyway"
+                "plan", self.tools.put("m", value), "--alone", "--deviation", most, "--first", limit, "--anyway"
             )
             self.assertEqual(status, 0, (case, wanted, error))
             self.assertStarts(
@@ -233,16 +237,16 @@ class PoolPlans(ToolCase):
                 self.assertEqual(self.tools.sets(after), self.tools.sets(dump))
                 self.assertEqual({int(group.split(".")[0]) for group in of_groups(commands(output))}, set(ids))
                 self.assertTrue(all(answer.startswith("moved 0 ") for answer in self.tools.answers(after, balances)))
-                status, output, error = self.tools.run("plan", osd, crush, "--pool", "pool7", "--deviation", "1")
+                status, output, error = self.tools.run("plan", osd, crush, "--of-pool", "pool7", "--deviation", "1")
                 self.assertEqual(status, 0, error)
                 self.assertTrue(output, error)
                 self.assertTrue(all(group.startswith("7.") for group in of_groups(commands(output))), error)
-        status, output, error = self.tools.run("plan", osd, crush, "--pool", "40", "--pool", "pool1")
+        status, output, error = self.tools.run("plan", osd, crush, "--of-pool", "40", "--of-pool", "pool1")
         self.assertEqual(status, 0, error)
         self.assertEqual({group.split(".")[0] for group in of_groups(commands(output))}, {"1", "40"}, error)
 
     def test_pools_by_words(self) -> None:
-        """`--pool` and `--pools` mean the same pools by the same words: ids, names, and names that have commas
+        """`--of-pool` and `--pools` mean the same pools by the same words: ids, names, and names that have commas
         themselves; what may be both is an id."""
         own = copied(CLUSTERS["001-built"])
         first = own["osd_dump"]["pools"][0]
@@ -262,13 +266,13 @@ class PoolPlans(ToolCase):
             ("plain,6,7", [5, 6, 7]),
         ):
             with self.subTest(words=words):
-                by_pool = json.loads(self.tools.run("plan", *files, "--json", "--unmatched", "--pool", words)[1])
+                by_pool = json.loads(self.tools.run("plan", *files, "--json", "--unmatched", "--of-pool", words)[1])
                 by_pools = json.loads(self.tools.run("plan", *files, "--json", "--unmatched", "--pools", words)[1])
                 self.assertEqual(
                     [[pool["id"] for pool in found["pools"]] for found in (by_pool, by_pools)],
                     [wanted, wanted],
                     (words, wanted),
                 )
-        for option in ("--pool", "--pools"):
+        for option in ("--of-pool", "--pools"):
             with self.subTest():
                 self.is_told(self.tools.run("plan", *files, option, "with,5"), 1, "no pool with", option)

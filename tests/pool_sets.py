@@ -7,6 +7,7 @@ import pathlib
 import random
 import subprocess
 import tempfile
+import time
 
 from rekhuso.program import answers
 from rekhuso.program.agreement import POOL, are_whole_sets
@@ -23,6 +24,9 @@ ONE, MOST, PARTS = 1, 2, 7
 GROUPS = {ONE: 1, MOST: 65_536, PARTS: 300}
 # What stands in place of a letter of sets in texts near to them, and how many of these are tried.
 NEAR, TEXTS = ("", "[", "]", ",", " ", "1", "23", "] [", "none", "-", ".", "\t", "\u0663"), 20_000
+
+# So many holds, and the seconds that the looks of an `await` take at least: a million, with a sleep after each 512.
+HOLDS, LOOKS = 100, 1_000_000 // 512 * 250e-6
 
 
 def stated() -> Json:
@@ -81,6 +85,13 @@ class PoolSets(Case):
                 first, _, second, _, third, monitors = self.answers(lines, "--stock")
                 self.assertEqual([first, second], 2 * [sets])
                 self.assertEqual(third, f"f{monitors}")
+
+    def test_holds(self) -> None:
+        """A hold of the lock lasts for its sets alone: a hundred are told in a few seconds, where holds that looked for
+        an epoch as often as an `await` does would take 48 seconds"""
+        begin = time.monotonic()
+        self.answers([f"ups {ONE}"] * HOLDS, "--stock", case={**stated(), "pools": stated()["pools"][:1]})
+        self.assertLess(time.monotonic() - begin, HOLDS * LOOKS / 2)
 
     def test_none_there(self) -> None:
         """A pool that is not there is 23; any other form is 33."""

@@ -77,7 +77,7 @@ class Preparing(StockCase):
         files = self.files()
         cases: list[tuple[list[object], str]] = [
             (["--prepare", "--json"], "--prepare goes before a change that is still to come"),
-            (["--prepare", "--pg", "2.0"], "--prepare goes before a change that is still to come"),
+            (["--prepare", "--of-pg", "2.0"], "--prepare goes before a change that is still to come"),
             (["--prepare", "--to", "x"], "--prepare --to goes with --batch"),
             (["--prepare", "--osd-most", "2"], "--osd-most is a limit of parts, and goes with --prepare and --batch"),
             (["--osd-most", "2"], "--osd-most is a limit of parts, and goes with --prepare and --batch"),

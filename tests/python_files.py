@@ -13,12 +13,18 @@ from tests.cases import HERE, TOP, Case
 from tests.packaged import ran
 
 TOOLS, BENCH = TOP / "tools", TOP / "bench"
-# Without the cache of another run types take long, and beside proofs all of it does.
-SECONDS = 600
+# So many seconds of a processor may a look at files take, however much others run beside it: types take long without
+# the cache of another run. One that does nothing is ended after so many by the clock.
+SECONDS, CLOCK = 600, 7200
 # How many times a type of the tools may be told as `Any`, which says nothing.
 ANYS = 60
 OWN = [*sorted(TOOLS.glob("*.py")), *sorted((TOOLS / "rekhuso").rglob("*.py"))]
 FILES = [*OWN, *sorted(HERE.glob("*.py")), *sorted(BENCH.glob("*.py"))]
+
+
+def looked(*words: object) -> tuple[int, str]:
+    """The status and the output of a command that has so many seconds of a processor."""
+    return ran(["sh", "-c", f'ulimit -t {SECONDS}; exec "$@"', "sh", *words], seconds=CLOCK)
 
 
 def has_black() -> bool:
@@ -38,7 +44,7 @@ class PythonFiles(Case):
         with tempfile.TemporaryDirectory() as folder:
             words = [
                 "env",
-                f"MYPYPATH={TOP}:{TOOLS}",
+                f"MYPYPATH={TOP}:{TOOLS}:{BENCH}",
                 "mypy",
                 "--strict",
                 "--python-version",
@@ -48,7 +54,7 @@ class PythonFiles(Case):
             ]
             for name, files in (("tools", OWN), ("tests", [HERE]), ("bench", sorted(BENCH.glob("*.py")))):
                 with self.subTest(name=name):
-                    status, told = ran([*words, *files], seconds=SECONDS)
+                    status, told = looked(*words, *files)
                     self.assertEqual(status, 0, told[-600:])
 
     def test_lines(self) -> None:
@@ -61,14 +67,14 @@ class PythonFiles(Case):
     def test_format(self) -> None:
         """`black`, as pyproject.toml of the tools sets it, finds nothing to do."""
         self.needs("black 23", has_black())
-        status, told = ran(["black", "--check", "--config", TOOLS / "pyproject.toml", *FILES], seconds=SECONDS)
+        status, told = looked("black", "--check", "--config", TOOLS / "pyproject.toml", *FILES)
         self.assertEqual(status, 0, told[-600:])
 
     def test_names(self) -> None:
         """pyflakes finds nothing: no name is imported or set in vain, and none is used that nothing sets."""
         flakes = next((name for name in ("pyflakes3", "pyflakes") if shutil.which(name)), "")
         self.needs("pyflakes (Debian: pyflakes3)", flakes != "")
-        self.assertEqual(ran([flakes, *FILES], seconds=SECONDS), (0, ""))
+        self.assertEqual(looked(flakes, *FILES), (0, ""))
 
     def test_docstrings(self) -> None:
         """Every module, class and function of the tools has its docstring."""

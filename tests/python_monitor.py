@@ -8,13 +8,16 @@ import json
 import os
 import pathlib
 import random
+import re
 import signal
+import subprocess
+import sys
 import tempfile
 from collections.abc import Callable
 from concurrent.futures import ThreadPoolExecutor
 from unittest import mock
 
-from rekhuso import Closed, Fault, Monitor, Refused
+from rekhuso import Closed, Fault, Monitor, Refused, Session
 from rekhuso.faults import Trouble
 
 from tests import model, soak
@@ -60,17 +63,29 @@ class PythonMonitor(Case):
                     call()
                 self.assertEqual((refused.exception.name, refused.exception.number), (name, number))
 
+    def test_names(self) -> None:
+        """What the package has is told before it comes in; a monitor says of which program it is, over what, and
+        whether it is closed."""
+        words = ["-c", "import rekhuso; print(sorted(set(rekhuso.__all__) - set(dir(rekhuso))))"]
+        done = subprocess.run(
+            [sys.executable, *words], capture_output=True, text=True, timeout=60, check=True, cwd=TOP / "tools"
+        )
+        self.assertEqual(done.stdout, "[]\n")
+        with Monitor(EXAMPLE, self.program) as monitor:
+            own = repr(monitor)
+            self.assertEqual(own, f"<Monitor of {monitor.program} over a map>")
+        self.assertEqual(repr(monitor), f"{own[:-1]}, closed>")
+
     def test_changes_without_a_base(self) -> None:
-        """Changes without a base by two sessions in turn: each is made at the epoch that it finds; one with a base is
-        refused."""
+        """Changes without a base by two sessions in turn: each is made at the epoch that it finds; a line with a base
+        is refused."""
         value = example()
         with Monitor(value, self.program, sessions=2, stock=True, timeout=SECONDS) as monitor:
             for turn in range(10):
                 one = monitor.sessions[turn % 2]
-                self.assertEqual(one.apply(**{"down" if turn % 2 else "up": [2]}), (value["epoch"] + turn + 1, 0))
-            with self.assertRaises(Refused) as refused:
-                monitor.apply(base=monitor.epoch())
-            self.assertEqual((refused.exception.name, refused.exception.number), ("BadField", 11))
+                made = one.apply(down=[2]) if turn % 2 else one.apply(up=[2])
+                self.assertEqual(made, (value["epoch"] + turn + 1, 0))
+            self.assertEqual(monitor.raw(['apply {"base":11,"up":[2]}']), ["err 11 BadField"])
 
     def test_sessions(self) -> None:
         """Four clients in four threads over one monitor ask and change at random: all answers are those of one
@@ -106,7 +121,8 @@ class PythonMonitor(Case):
         groups = [f"{pool['id']}.{number:x}" for pool in pools for number in range(pool["pg_num"])]
         for stock in (False, True):
             with self.subTest(stock=stock), Monitor(value, self.program, sessions=2, stock=stock) as monitor:
-                for down in ([], [3], [0, 1, 2]):
+                downs: list[list[int]] = [[], [3], [0, 1, 2]]
+                for down in downs:
                     if down:
                         monitor.change(down=down)
                     for session in monitor.sessions:
@@ -197,6 +213,17 @@ class PythonMonitor(Case):
             },
         )
 
+    def test_examples(self) -> None:
+        """Each public function of a session has an example, and each example is as it says."""
+        found = doctest.DocTestFinder().find(Session, "Session", globs={})
+        shown = {name for test in found for name in re.findall(r"monitor\.(\w+)\(", test.docstring or "")}
+        self.assertEqual({name for name in vars(Session) if not name.startswith("_")} - shown, set())
+        for test in (test for test in found if test.examples):
+            with self.subTest(test.name), Monitor(EXAMPLE, self.program, stock=True, timeout=SECONDS) as monitor:
+                test.globs.update(monitor=monitor)
+                told: list[str] = []
+                self.assertEqual(doctest.DocTestRunner(verbose=False).run(test, out=told.append).failed, 0, told)
+
     def test_python_of_the_page(self) -> None:
         """Every line of Python of docs/LIVE.md."""
         with mock.patch("rekhuso.Monitor", functools.partial(Monitor, timeout=SECONDS)):
@@ -204,7 +231,7 @@ class PythonMonitor(Case):
                 str(TOP / "docs" / "LIVE.md"),
                 module_relative=False,
                 optionflags=doctest.FAIL_FAST,
-                globs={"PROGRAM": self.program, "EXAMPLE": EXAMPLE},
+                globs={"PROGRAM": self.program, "EXAMPLE": EXAMPLE, "CEPH": EXAMPLES / "ceph"},
             )
         self.assertGreater(done.attempted, 10)
         self.assertFalse(done.failed)

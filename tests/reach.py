@@ -15,7 +15,7 @@ from typing import Any
 
 from tests.cases import TOP
 from tests.clusters import Json, commands, places, with_commands
-from tests.reaches import reach_of
+from tests.reaches import counts_of
 from tests.tool_cases import ToolCase
 from tests.whole_maps import map_of, osds_of, pool_of, rule_of
 
@@ -106,18 +106,66 @@ class Reach(ToolCase):
             reach = self.reach_of(files, PLANNED)
             ways: list[list[str]] = [[], ["--alone"]]
             for words in ways:
-                told = self.json("plan", *files, "--pool", "rbd", *words)
+                told = self.json("plan", *files, "--of-pool", "rbd", *words)
                 counts = self.counts_after(files, told["commands"])
                 with self.subTest(weight=weight, words=words):
                     self.assertLessEqual(max(abs(counts[osd] - own) for osd, own in reach.items()), 1.5)
                     self.assertLessEqual(told["pools"][0]["moves"], most + 4 * len(words))
 
+    def short_dumps(self) -> tuple[pathlib.Path, pathlib.Path]:
+        """The dumps of the cluster where the third host weighs so little, and CRUSH tries so seldom, that most groups
+        are left without a place there.
+        """
+        crush = with_weights(json.loads((CEPH / "crush.json").read_text()), dict.fromkeys(range(8, 12), 5960))
+        crush["tunables"]["choose_total_tries"] = 8
+        return CEPH / "osd.json", self.tools.put("short", crush)
+
+    def sets_by_pool(self, files: tuple[pathlib.Path, pathlib.Path], lines: list[str]) -> dict[int, list[set[int]]]:
+        """The sets of each pool's groups by the program, once commands are given."""
+        found: dict[int, list[set[int]]] = {1: [], 2: []}
+        value = with_commands(json.loads(self.output("import", *files)), lines)
+        for group, own in self.tools.sets(value, "--stock").items():
+            found[int(group.split(".")[0])].append(set(places(own)))
+        return found
+
+    def test_short_groups(self) -> None:
+        """Where CRUSH leaves groups short a full host counts the groups that have a place there, and no more: `df` says
+        so, and by a plan each host gets as many, but for rounding.
+        """
+        files, hosts = self.short_dumps(), [set(range(first, first + 4)) for first in (0, 4, 8)]
+
+        def there(lines: list[str]) -> list[list[int]]:
+            sets = self.sets_by_pool(files, lines)
+            return [[sum(not host.isdisjoint(own) for own in sets[pool]) for pool in sets] for host in hosts]
+
+        before = there([])
+        self.assertEqual([own[1] for own in before[:2]], [PLANNED] * 2)
+        self.assertTrue(0 < before[2][1] < PLANNED / 3, before)
+        reach = {node["id"]: node["reach"] for node in self.json("df", *files)["nodes"]}
+        for host, counts in zip(hosts, before):
+            self.assertEqual([reach[osd] for osd in host], [sum(counts) / 4] * 4)
+        ways: list[list[object]] = [[], ["--alone"], ["--deviation", 0.5]]
+        for words in ways:
+            after = there(self.json("plan", *files, *words)["commands"])
+            with self.subTest(words=words):
+                for counts, own in zip(after, before):
+                    self.assertLessEqual(abs(counts[1] - own[1]), 1, after)
+
     def test_plans_by_weight(self) -> None:
-        """By weight alone the small disks get three times their share, as Ceph's balancer would have it."""
+        """By weight alone the small disks would get three times their share, as Ceph's balancer would have it. Without
+        --anyway they get no more, to their weight, than the fullest OSD had before.
+        """
         files = self.dumps_of(dict.fromkeys(SMALL, 29802))
-        told = self.json("plan", *files, "--alone", "--by-weight")
+        told = self.json("plan", *files, "--alone", "--by-weight", "--anyway")
         counts = self.counts_after(files, told["commands"])
         self.assertEqual((told["pools"][1]["moves"], [counts[osd] for osd in SMALL]), (37, [16, 16]))
+        weights = {osd: 29802 if osd in SMALL else 238419 for osd in range(12)}
+        before, after = (
+            self.counts_after(files, own)
+            for own in ([], self.json("plan", *files, "--alone", "--by-weight")["commands"])
+        )
+        most = max(count / weights[osd] for osd, count in before.items())
+        self.assertLessEqual(max(count / weights[osd] for osd, count in after.items()), most)
 
     def test_drained(self) -> None:
         """No group goes to an OSD of next to no weight."""
@@ -145,7 +193,7 @@ class Reach(ToolCase):
 
     def test_many_inputs(self) -> None:
         """Over 30 small trees of unequal racks, hosts and disks, and 122,880 groups together, a plan brings each OSD
-        within 1.1 places, or a hundredth, of what the definition gives it of the places that there are.
+        within 1.1 places, or a hundredth, of what the definition gives it, where groups left short count as they lie.
         """
         rng = random.Random(1)
         for _ in range(30):
@@ -153,9 +201,8 @@ class Reach(ToolCase):
             weights = {item: own * 65536 for bucket in value["buckets"] for item, own in bucket["items"] if item >= 0}
             path = self.tools.put("tree", value)
             lines = self.json("plan", path, "--alone")["commands"]
-            after = self.tools.sets(with_commands(value, lines), "--stock")
+            before, after = (self.tools.sets(with_commands(value, own), "--stock") for own in ([], lines))
             counts = Counter(osd for up in after.values() for osd in places(up))
-            (given,) = reach_of(value, value["pools"][0], weights)
-            groups = sum(counts.values()) / sum(given.values())
-            for osd, part in given.items():
-                self.assertLessEqual(abs(counts[osd] - groups * part), max(1.1, groups * part / 100), osd)
+            wanted = counts_of(value, value["pools"][0], weights, map(places, before.values()))
+            for osd, share in wanted.items():
+                self.assertLessEqual(abs(counts[osd] - share), max(1.1, float(share) / 100), osd)

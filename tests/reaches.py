@@ -2,7 +2,7 @@
 
 from __future__ import annotations
 
-from collections.abc import Mapping
+from collections.abc import Iterable, Mapping
 from fractions import Fraction
 
 from tests.clusters import Json
@@ -69,4 +69,27 @@ def reach_of(value: Json, pool: Json, weights: Mapping[int, int]) -> list[dict[i
         elif step[0] == "emit":
             parts = given.parts(root, steps, Fraction(1))
             found.append({osd: parts.get(osd, Fraction(0)) for osd in given.of_type(root, 0) if weights.get(osd)})
+    return found
+
+
+def counts_of(
+    value: Json, pool: Json, weights: Mapping[int, int], sets: Iterable[Iterable[int]]
+) -> dict[int, Fraction]:
+    """How many places each OSD is to have of a pool whose rule has one choose step, and whose groups lie so: of whole
+    groups what the rule can give, and of groups left short in full buckets what is there, beside them by weight.
+    """
+    (_, root), (_, number, kind), *_ = steps_for(value, pool)
+    given, own = Given(value, weights, pool["size"]), [set(osds) for osds in sets]
+    items = {item: given.weight(item) for item in given.of_type(root, kind)}
+    parts = filled(items, number if number > 0 else pool["size"] + number)
+    short = [osds for osds in own if len(osds) < sum(parts.values())]
+    there = {item: sum(len(osds & set(given.of_type(item, 0))) for osds in short) for item in items}
+    rest = {item: weight for item, weight in items.items() if parts[item] < 1}
+    left = sum(there.values()) - sum(there[item] for item in items if item not in rest)
+    found: dict[int, Fraction] = {}
+    for item, part in parts.items():
+        places = (len(own) - len(short)) * part
+        places += Fraction(left * rest[item], sum(rest.values())) if item in rest else there[item]
+        osds = {osd: given.weight(osd) for osd in given.of_type(item, 0)}
+        found.update({osd: places * weight / sum(osds.values()) for osd, weight in osds.items()})
     return found

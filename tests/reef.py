@@ -222,7 +222,7 @@ class Reef(ReefCase):
         for release, is_told, is_cautious in (("jewel", True, False), ("reef", False, False), (None, True, True)):
             with self.subTest(release=release):
                 own["osd_dump"]["require_min_compat_client"] = release
-                output = self.output("plan", *self.dumps("clients", own), "--max", "1")
+                output = self.output("plan", *self.dumps("clients", own), "--first", "1")
                 self.assertEqual(line in output, is_told)
                 self.assertEqual("get-require-min-compat-client" in output, is_cautious)
 
@@ -238,7 +238,7 @@ class Reef(ReefCase):
         own["osd_dump"]["osds"][3]["weight"] = 1.5
         unknown: list[tuple[tuple[pathlib.Path, pathlib.Path], list[str]]] = [
             (self.files("primaries_pairs"), ["--anyway"]),
-            (self.files("plain"), ["--pool", "2"]),
+            (self.files("plain"), ["--of-pool", "2"]),
             (self.dumps("above", own), []),
         ]
         for files, words in unknown:
@@ -261,15 +261,15 @@ class Reef(ReefCase):
                 f"the cluster moves already: {groups} groups are served by temporary sets (pg_temp), and {groups} of "
             )
             line += f"{whole} places are still to move, {100 * groups / whole:.2f} %"
-            _, error = self.ran("plan", *files, "--max", "1", status=refused)
+            _, error = self.ran("plan", *files, "--first", "1", status=11 * refused)
             self.assertStarts(error, line)
             self.assertEqual(error.endswith("; no plan is made: --anyway makes one\n"), bool(refused), error)
             self.assertStarts(self.output("whatif", *files, "--out", "3"), line)
             told = self.json("whatif", *files, "--out", "3")["misplaced"]
             self.assertEqual((told["groups"], told["places"]), (groups, groups))
-        self.assertTrue(commands(self.output("plan", *files, "--anyway", "--max", "1")))
-        self.ran("whatif", *files, "--balance", status=1)
-        _, error = self.ran("plan", *self.files("temps"), "--max", "1")
+        self.assertTrue(commands(self.output("plan", *files, "--anyway", "--first", "1")))
+        self.ran("whatif", *files, "--balance", status=11)
+        _, error = self.ran("plan", *self.files("temps"), "--first", "1")
         line = "3 groups are served by temporary sets (pg_temp), from which no place is still to move\n"
         self.assertStarts(error, line)
         self.assertIsNone(self.json("whatif", *self.files("plain"), "{}")["misplaced"])
@@ -281,7 +281,7 @@ class Reef(ReefCase):
         own = copied(REEF["hammer"])
         own["crush_dump"]["tunables"]["choose_local_tries"] = 2
         _, error = self.ran("import", "--check", *self.dumps("older", own), status=1)
-        self.assertIn("sets all of them, and moves data once; under norebalance, `hold --at` behind it keeps", error)
+        self.assertIn("sets all of them, and moves data once; under norebalance, `hold --pgs` behind it keeps", error)
 
 
 class ByReef(ReefCase):

@@ -23,7 +23,7 @@ NONE = 2147483647
 GROUP = re.compile(r"(\d+\.[0-9a-f]+) raw \(.*?\) up \(\[([^\]]*)\], p(-?\d+)\) acting")
 CONF = """[global]
 fsid = {fsid}
-mon_host = [v2:127.0.0.1:{port}]
+mon_host = {hosts}
 auth_cluster_required = none
 auth_service_required = none
 auth_client_required = none
@@ -34,7 +34,7 @@ log_to_stderr = false
 err_to_stderr = false
 mon_cluster_log_file = {folder}/cluster.log
 [mon]
-mon_data = {folder}/mon
+mon_data = {folder}/mon-$id
 mon_max_pg_per_osd = 1000000
 mon_osd_report_timeout = 100000000
 mon_osd_down_out_interval = 0
@@ -64,21 +64,26 @@ def free_port() -> int:
 
 
 class ReefMonitor:
-    """A monitor of Ceph 18.2 over a cluster's own binary map, which ends with the block."""
+    """A monitor of Ceph 18.2 over a cluster's own binary map, or several, which end with the block."""
 
-    def __init__(self, tools: pathlib.Path, osdmap: bytes) -> None:
+    def __init__(self, tools: pathlib.Path, osdmap: bytes, count: int = 1) -> None:
         self.tools, self.made = tools, tempfile.TemporaryDirectory()
         self.folder = pathlib.Path(self.made.name)
-        self.conf, monmap, fsid, port = self.folder / "ceph.conf", self.folder / "monmap", uuid.uuid4(), free_port()
-        (self.folder / "mon").mkdir()
+        self.conf, monmap, fsid = self.folder / "ceph.conf", self.folder / "monmap", uuid.uuid4()
+        hosts = {name: f"[v2:127.0.0.1:{free_port()}]" for name in "abc"[:count]}
         (self.folder / "osdmap").write_bytes(osdmap)
-        self.conf.write_text(CONF.format(fsid=fsid, port=port, folder=self.folder))
-        address = f"[v2:127.0.0.1:{port}]"
-        self.run("monmaptool", "--create", "--fsid", fsid, "--addv", "a", address, monmap)
-        own = "-i", "a", "-c", self.conf
+        self.conf.write_text(CONF.format(fsid=fsid, hosts=",".join(hosts.values()), folder=self.folder))
+        given = [word for name, host in hosts.items() for word in ("--addv", name, host)]
+        self.run("monmaptool", "--create", "--fsid", fsid, *given, monmap)
+        self.processes = {name: self.started(name, monmap) for name in hosts}
+
+    def started(self, name: str, monmap: pathlib.Path) -> subprocess.Popen[bytes]:
+        """A monitor of a name, which begins with the map."""
+        (self.folder / f"mon-{name}").mkdir()
+        own = "-i", name, "-c", self.conf
         self.run("ceph-mon", "--mkfs", *own, "--monmap", monmap, "--osdmap", self.folder / "osdmap")
-        self.process = subprocess.Popen(
-            [str(tools / "ceph-mon"), "-f", *map(str, own)],
+        return subprocess.Popen(
+            [str(self.tools / "ceph-mon"), "-f", *map(str, own)],
             stdout=subprocess.DEVNULL,
             stderr=subprocess.DEVNULL,
             stdin=subprocess.DEVNULL,
@@ -88,13 +93,20 @@ class ReefMonitor:
         return self
 
     def __exit__(self, *_: object) -> None:
-        self.process.terminate()
-        try:
-            self.process.wait(20)
-        except subprocess.TimeoutExpired:
-            self.process.kill()
-            self.process.wait()
+        for process in self.processes.values():
+            process.terminate()
+        for process in self.processes.values():
+            try:
+                process.wait(20)
+            except subprocess.TimeoutExpired:
+                process.kill()
+                process.wait()
         self.made.cleanup()
+
+    def kill(self, name: str) -> None:
+        """Kills a monitor."""
+        self.processes[name].kill()
+        self.processes[name].wait(20)
 
     def run(self, tool: str, *words: object, given: str = "") -> subprocess.CompletedProcess[str]:
         """What a tool has put out."""

@@ -74,12 +74,12 @@ class Reports(ReportCase):
                 self.assertEqual(self.output("df", self.tools.put("with-head", text)), self.output("df", *dumps))
 
     def test_kept(self) -> None:
-        """`release --keep` takes a report from before the hold."""
+        """`release --before` takes a report from before the hold."""
         own = RECORDS["reef"]
         path = self.tools.put("report", own["report"])
         words = self.tools.put("osd", own["osd_dump"]), self.tools.put("crush", own["crush_dump"])
-        wanted = self.ran("release", *words, "--keep", words[0])
-        self.assertEqual(self.ran("release", path, "--keep", path), wanted)
+        wanted = self.ran("release", *words, "--before", words[0])
+        self.assertEqual(self.ran("release", path, "--before", path), wanted)
 
     def test_live(self) -> None:
         """The groups of a live cluster lie where its report says."""

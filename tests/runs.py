@@ -136,7 +136,7 @@ def coded(text: str | bytes) -> bytes:
     return text if isinstance(text, bytes) else text.encode("utf-8", "surrogateescape")
 
 
-def difference(what: str, wanted: int | str | None, got: int | bytes) -> str | None:
+def difference(what: str, wanted: int | str | bytes | None, got: int | bytes) -> str | None:
     """How a result differs from what is wanted, or None."""
     if wanted is None:
         return None if got else f"{what}: expected some text, got none"

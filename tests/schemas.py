@@ -5,9 +5,11 @@ The schemas leave room for keys to come; here a key that they do not tell is a f
 
 from __future__ import annotations
 
+import ast
 import functools
 import json
 import re
+import sys
 import unittest
 from collections.abc import Iterator
 from typing import Any
@@ -17,10 +19,15 @@ from tests.cases import TOP
 from rekhuso.cluster import judge
 from rekhuso.cluster.reasons import kinds
 
+sys.path.append(str(TOP / "tools"))
+
+import schemas as forms  # noqa: E402
+
 SCHEMAS = TOP / "tools" / "rekhuso" / "schemas"
 # What a schema may say here. What none of these tells is not looked at, so no schema has it.
 KNOWN = {
     "$schema",
+    "$comment",
     "$defs",
     "$ref",
     "title",
@@ -118,11 +125,11 @@ class Schemas(unittest.TestCase):
     is_form = True
 
     def test_commands(self) -> None:
-        """Each command that has `--json` has a schema and a row in docs/CEPH.md, and no other."""
+        """Each command that has `--json` has a schema and a row in docs/COMMANDS.md, and no other; but for refusals."""
         files = (TOP / "tools" / "rekhuso" / "commands").glob("*.py")
         found = re.findall(r'put_json\(\s*"(\w+)"', "".join(file.read_text() for file in files))
-        self.assertEqual({path.stem for path in SCHEMAS.glob("*")}, set(found))
-        rows = (TOP / "docs" / "CEPH.md").read_text().split("\n## JSON\n")[1].split("\n### ")[0]
+        self.assertEqual({path.stem for path in SCHEMAS.glob("*")}, {*found, "refusal"})
+        rows = (TOP / "docs" / "COMMANDS.md").read_text().split("\n## JSON\n")[1].split("\n### ")[0]
         self.assertEqual(set(re.findall(r"^\| `(\w+)` \|", rows, re.M)), set(found))
 
     def test_forms(self) -> None:
@@ -137,9 +144,33 @@ class Schemas(unittest.TestCase):
                 used = {part["$ref"].removeprefix("#/$defs/") for part in every if "$ref" in part}
                 self.assertEqual(used, set(schema.get("$defs", {})))
 
+    def test_forms_of_the_tools(self) -> None:
+        """What is a form of the tools is in each schema as `tools/schemas.py` writes it, and one definition by its name
+        is one in all of them"""
+        own, found = forms.forms_of(TOP), dict[str, Any]()
+        for path in sorted(SCHEMAS.glob("*.json")):
+            with self.subTest(name=path.stem):
+                text = path.read_text(encoding="utf-8")
+                self.assertEqual(forms.renewed(own, text), text, "tools/schemas.py writes it anew")
+                for name, part in json.loads(text).get("$defs", {}).items():
+                    if name in own:
+                        self.assertEqual(found.setdefault(name, part), part, name)
+        self.assertGreater(len(found), 30)
+
+    def test_other_form(self) -> None:
+        """A form with one more key, and one that is of another type, is told by the schema that is written anew"""
+        own, text = forms.forms_of(TOP), (SCHEMAS / "whatif.json").read_text(encoding="utf-8")
+        count, flow = own["count"], own["flow"]
+        more = count._replace(types={**count.types, "more": ast.Name("str")}, required=[*count.required, "more"])
+        others = {**own, "count": more, "flow": flow._replace(types={**flow.types, "notes": ast.Name("int")})}
+        new = json.loads(forms.renewed(others, text))
+        self.assertEqual(new["$defs"]["count"]["properties"]["more"], {"type": "string"})
+        self.assertEqual(new["$defs"]["count"]["required"], ["groups", "places", "more"])
+        self.assertEqual(new["$defs"]["bucket"]["properties"]["notes"], {"type": "integer"})
+
     def test_codes(self) -> None:
-        """Each code of a reason stands in the schemas, in docs/CEPH.md, and in a module that gives it."""
-        page = (TOP / "docs" / "CEPH.md").read_text()
+        """Each code of a reason stands in the schemas, in docs/COMMANDS.md, and in a module that gives it."""
+        page = (TOP / "docs" / "COMMANDS.md").read_text()
         cluster, plans = TOP / "tools" / "rekhuso" / "cluster", TOP / "tools" / "rekhuso" / "plans"
         texts = "".join(path.read_text() for path in [*cluster.rglob("*.py"), *plans.rglob("*.py")])
         for codes, name in ((kinds.CODES, "import"), (judge.CODES, "hold"), (judge.CODES, "drain")):

@@ -75,7 +75,7 @@ class SeveralMaps(StockCase):
             for at in range(last["pool"] + 1, 256 + len(pools))
         ]
         dumps, second = self.dumps("many", own), [pool["pool"] for pool in pools[256:]]
-        paths = self.output("import", *dumps, "--out", folder).splitlines()
+        paths = self.output("import", *dumps, "--to", folder).splitlines()
         maps = [json.loads(pathlib.Path(path).read_text()) for path in paths]
         self.assertEqual([[pool["id"] for pool in own["pools"]] for own in maps][1], second, paths)
         self.assertEqual(json.loads(self.output("import", *dumps, "--pools", ",".join(map(str, second)))), maps[1])
@@ -218,7 +218,7 @@ class SeveralMaps(StockCase):
             after = with_commands(value, [line for line in commands(output) if line.split(" ")[3].split(".")[0] in own])
             for pool in sorted(own):
                 self.assertStarts(self.tools.answers(after, [f"balance {pool} 1024"], "--stock")[0], "moved 0 ")
-        part, _ = self.ran("plan", *files, "--pool", "4", "--alone")
+        part, _ = self.ran("plan", *files, "--of-pool", "4", "--alone")
         moves = [line for line in commands(output) if " 4." in line]
         self.assertTrue(moves, part)
         self.assertEqual(commands(part), moves)
@@ -226,7 +226,7 @@ class SeveralMaps(StockCase):
         self.assertGreater(len(commands(short)), 0, (short, error))
         self.assertLessEqual(len(commands(short)), len(moves), (short, error))
         self.assertIn(f"\n{names[4]}: ", error, (short, error))
-        for words in (["--pool", "7"], ["--pools", "nobody"]):
+        for words in (["--of-pool", "7"], ["--pools", "nobody"]):
             with self.subTest(words=words):
                 _, error = self.ran("plan", *files, *words, status=1)
                 self.assertStarts(error, "no pool ")
@@ -289,7 +289,7 @@ class SeveralMaps(StockCase):
             ["whatif", path, "--out", "3", "--unmatched"],
             ["picture", path, "--pools", "1"],
             ["plan", path, "--tree", "x"],
-            ["import", path, path, "--check", "--out", "maps"],
+            ["import", path, path, "--check", "--to", "maps"],
             ["import", path, path, "--check", "--names", "names"],
             ["report", path, path, path],
             ["df", path, path, path],

@@ -123,7 +123,7 @@ class StockClusters(StockCase):
         output, error = self.ran("import", *self.dumps(name), status=1)
         self.assertEqual(output, "", error)
         self.assertEqual(len(error.splitlines()), 2)
-        self.assertEnds(error, "; it takes 2 maps: --out FOLDER writes all, --pools 1 and --pools 2,3,4 one each\n")
+        self.assertEnds(error, "; it takes 2 maps: --to FOLDER writes all, --pools 1 and --pools 2,3,4 one each\n")
         for words, pools in (
             ("2,3,4", {2, 3, 4}),
             ("1", {1}),
@@ -138,7 +138,7 @@ class StockClusters(StockCase):
                 output, error = self.ran("import", *self.dumps(name), "--pools", words, status=1)
                 self.assertEqual(output, "", error)
                 self.assertStarts(error, "no pool ")
-        _, error = self.ran("import", *self.dumps(name), "--out", "/dev/null/maps", status=2)
+        _, error = self.ran("import", *self.dumps(name), "--to", "/dev/null/maps", status=2)
         self.assertEqual(error.splitlines()[-1], "/dev/null/maps: Not a directory")
 
     def test_weight_set(self) -> None:
@@ -181,7 +181,7 @@ class StockClusters(StockCase):
         do."""
         for name, wanted in OUTSIDE.items():
             with self.subTest(name=name):
-                for words in (["--out", "maps"], ["--check"]):
+                for words in (["--to", "maps"], ["--check"]):
                     output, error = self.ran("import", *self.dumps(name), *words, status=1)
                     lines = error.splitlines()
                     end = (
@@ -200,9 +200,9 @@ class StockClusters(StockCase):
                 self.assertStarts(self.output("import", *self.dumps(name), "--check"), "the cluster comes in")
 
     def test_count_of_the_page(self) -> None:
-        """docs/CEPH.md says how many of the stock clusters come in."""
+        """docs/COMMANDS.md says how many of the stock clusters come in."""
         told = f"\n{len(STOCK) - len(OUTSIDE)} of the {len(STOCK)} stock clusters in `tests/`"
-        self.assertIn(told, (TOP / "docs" / "CEPH.md").read_text())
+        self.assertIn(told, (TOP / "docs" / "COMMANDS.md").read_text())
 
     def test_some_pools(self) -> None:
         """Of a cluster beyond a limit the pools that a map holds come in by --pools, and of one within it some pools
@@ -355,10 +355,12 @@ class StockClusters(StockCase):
         for name in ("001-three-hosts", "009-racks", "016-by-utilization"):
             with self.subTest(name=name):
                 value, path = self.brought(name)
-                output, _ = self.ran("plan", *self.dumps(name), "--pool", "2", "--alone")
+                output, _ = self.ran("plan", *self.dumps(name), "--of-pool", "2", "--alone")
                 after = with_commands(value, commands(output))
                 *_, dump = self.tools.answers(value, ["balance 2 1024", "dump"], "--stock")
                 self.assertTrue(output, name)
                 self.assertEqual(self.sets(after), self.sets(json.loads(dump.removeprefix("dump "))), name)
                 self.assertStarts(self.tools.answers(after, ["balance 2 1024"], "--stock")[0], "moved 0 ", name)
-                self.assertEqual(commands(self.output("plan", path, "--pool", "2", "--alone")), commands(output), name)
+                self.assertEqual(
+                    commands(self.output("plan", path, "--of-pool", "2", "--alone")), commands(output), name
+                )

@@ -99,10 +99,10 @@ class StockDumps(DumpCase):
             lines,
             [
                 "rule hybrid has the negative count -1 in a step chooseleaf_firstn, and its pools have the sizes "
-                "2 and 3; it takes 2 maps: --out FOLDER writes all, --pools 2 and --pools 3 one each"
+                "2 and 3; it takes 2 maps: --to FOLDER writes all, --pools 2 and --pools 3 one each"
             ],
         )
-        output, _ = self.ran("import", *self.dumps("sizes", own), "--out", "sizes")
+        output, _ = self.ran("import", *self.dumps("sizes", own), "--to", "sizes")
         self.assertEqual(
             sorted(line.split("/")[-1] for line in output.splitlines()),
             ["pools-1.json", "pools-2.json", "pools-3.json"],

@@ -248,7 +248,7 @@ class StockLimits(DumpCase):
         self.assertEqual(
             self.refused(own),
             [
-                "its pools have 1048577 groups together, more than 1048576; it takes 2 maps: --out FOLDER writes all, "
+                "its pools have 1048577 groups together, more than 1048576; it takes 2 maps: --to FOLDER writes all, "
                 f"{each} one each"
             ],
         )
@@ -268,7 +268,7 @@ class StockLimits(DumpCase):
             (
                 257,
                 True,
-                "257 pools, more than 256; it takes 2 maps: --out FOLDER writes all, which have 256 and 1 pools",
+                "257 pools, more than 256; it takes 2 maps: --to FOLDER writes all, which have 256 and 1 pools",
             ),
             (32, False, ""),
             (
@@ -330,7 +330,7 @@ class StockLimits(DumpCase):
                 for words, wanted in (
                     (["import", *files, "--check"], told + end if told else ""),
                     (["df", *files], told),
-                    (["import", *files, "--out", f"maps-{len(changes)}-{bool(told)}"], told),
+                    (["import", *files, "--to", f"maps-{len(changes)}-{bool(told)}"], told),
                 ):
                     output, error = self.ran(*words, status=int(bool(told)))
                     self.assertTrue(error == wanted if told else output, (words, output[:200], error))

@@ -27,6 +27,9 @@ SECTOR, CHANGES, AGAIN = 512, 8, 4
 KEPT = 3
 # So many of the cuts are tried while a long log is copied into its file.
 TRIED = 100
+# So many changes has a log that is cut, and behind or within so many of them it is cut. The first page of a file may be
+# written while it claims its log.
+IN_LOG, CUT, PAGE_ONE = 120, 6, 4096
 WAYS = ("nothing", "all", "the last", "sectors", "other sectors", "garbage")
 WARY = ("torn sectors", "other torn sectors")
 
@@ -85,6 +88,18 @@ class Cut:
 def syncs_of(calls: list[Call]) -> int:
     """How many of some calls sync a file."""
     return sum(call.kind == "s" for call in calls)
+
+
+def commits_in(log: bytes) -> list[int]:
+    """Where each commit of a log ends, by SQLite's form of one: a header of 32 bytes, and frames, each with the page
+    that it has, how many pages the file has behind a commit (else 0), and the salts of the header."""
+    size, salts, found = int.from_bytes(log[8:12], "big"), log[16:24], list[int]()
+    for at in range(32, len(log) - size - 23, 24 + size):
+        if log[at + 8 : at + 16] != salts:
+            break
+        if any(log[at + 4 : at + 8]):
+            found.append(at + 24 + size)
+    return found
 
 
 class StoreCuts(StoreCase):
@@ -189,3 +204,24 @@ class StoreCuts(StoreCase):
         cuts = [*self.cuts(calls, ends, before, made)]
         self.assertIn((self.store.name, "w"), {(call.name, call.kind) for call in calls}, "the log was not copied")
         self.judge(random.Random(3).sample(cuts, min(TRIED, len(cuts))))
+
+    def test_cut_log(self) -> None:
+        """A long log whose program was killed, none of which is in the file yet, is cut anywhere: what is left has each
+        change whose last frame is whole, and none behind it"""
+        talk = Talk([self.command, "--begin", EXAMPLE, self.store, "-"], {})
+        before = self.store.read_bytes()
+        for epoch in range(1, 1 + IN_LOG):
+            self.assertEqual(talk.ask(change_at(epoch)), f"ok {1 + epoch} evals 1")
+        talk.process.kill()
+        talk.end()
+        data, log = self.store.read_bytes(), log_of(self.store).read_bytes()
+        self.assertEqual(data[PAGE_ONE:], before[PAGE_ONE:], "the log was copied")
+        ends = commits_in(log)
+        others = len(ends) - IN_LOG
+        self.assertIn(others, range(3))
+        for at in sorted({0, 1, len(ends) - 1, *random.Random(5).sample(range(len(ends)), CUT)}):
+            for length, whole in ((ends[at], at + 1), (ends[at] - 1, at)):
+                with self.subTest(commit=at, length=length):
+                    log_of(self.store).write_bytes(log[:length])
+                    self.store.write_bytes(data)
+                    self.assertEqual(self.ran(self.store), Done(0, f"epoch {1 + max(0, whole - others)}\n", ""))

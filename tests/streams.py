@@ -121,7 +121,7 @@ class Streams(ToolCase):
             for words in (
                 # Two of the parts have room, and the third has not.
                 ["plan", osd, crush, "--batch", "1", "--to", disk / "parts"],
-                ["import", osd, crush, "--out", disk / "maps"],
+                ["import", osd, crush, "--to", disk / "maps"],
                 ["import", osd, crush, "--names", disk / "names"],
                 ["whatif", osd, crush, "--out", "1", "--picture", disk / "flows.svg"],
                 ["hold", osd, crush, "--weight", "osd.3=1", "--to", disk / "hold.sh"],
@@ -162,7 +162,7 @@ class Streams(ToolCase):
         osd, crush = self.tools.dumps("001-built")
         for words in (
             ["plan", osd, crush, "--batch", "1", "--to", "-"],
-            ["import", osd, crush, "--out", "-"],
+            ["import", osd, crush, "--to", "-"],
             ["import", osd, crush, "--names", "-"],
             ["whatif", osd, crush, "--out", "1", "--picture", "-"],
             ["hold", osd, crush, "--weight", "osd.3=1", "--to", "-"],

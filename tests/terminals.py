@@ -2,26 +2,33 @@
 
 from __future__ import annotations
 
+import fcntl
 import os
 import pathlib
 import pty
+import re
 import select
+import struct
 import subprocess
+import termios
 import time
+from collections import Counter
 from unittest import mock
 
 from tests.cases import EXAMPLE
-from tests.clusters import CLUSTERS, copied
+from tests.clusters import CLUSTERS, STOCK, copied
 from tests.tool_cases import AS_MONITOR, ToolCase, Tools
 from tests.tool_errors import SECONDS
 
 
 class Terminal:
-    """A shell of the tools at a terminal of its own."""
+    """A shell of the tools at a terminal of its own, of so many columns where these are said."""
 
-    def __init__(self, words: list[str], folder: pathlib.Path) -> None:
+    def __init__(self, words: list[str], folder: pathlib.Path, columns: int = 0) -> None:
         self.left, (self.child, self.end) = "", pty.fork()
         if self.child == 0:
+            if columns:
+                fcntl.ioctl(1, termios.TIOCSWINSZ, struct.pack("HHHH", 50, columns, 0, 0))
             os.chdir(folder)
             os.execvp(words[0], words)
 
@@ -88,6 +95,33 @@ class Terminals(ToolCase):
         self.assertEqual(
             self.output(*words, "--pools", name), self.output(*words, "--pools", own["osd_dump"]["pools"][0]["pool"])
         )
+
+    def test_bars(self) -> None:
+        """On a terminal that has room `df` has a bar of each OSD: as long as its groups by Ceph, and up to its share,
+        which is the same for all, in other signs than beyond; where there is no room or no UTF-8 there is none."""
+        own = STOCK["001-three-hosts"]
+        groups = Counter(f"osd.{osd}" for places, _ in own["up"].values() for osd in places)
+        words = self.tools.words("df", self.tools.put("o", own["osd_dump"]), self.tools.put("c", own["crush_dump"]))
+        share, most = sum(groups.values()) / len(groups), max(groups.values())
+        for columns, language, is_told in (
+            (160, "C.UTF-8", True),
+            (90, "C.UTF-8", False),
+            (160, "en_US.ISO-8859-1", False),
+        ):
+            named = {"LC_ALL": language, "TERM": "xterm"}
+            with self.subTest(columns=columns, language=language), mock.patch.dict(os.environ, named):
+                terminal = Terminal(words, self.tools.folder, columns)
+                found = terminal.type("", "over all pools")
+                terminal.close()
+                bars = dict(re.findall(r"(osd\.\d+) +([█░▓]+)\r", found))
+                self.assertEqual(set(bars), set(groups) if is_told else set())
+                for osd, bar in bars.items():
+                    has, lacks, beyond = (bar.count(sign) for sign in "█░▓")
+                    self.assertLessEqual(abs(has + beyond - 30 * groups[osd] / most), 1, (osd, bar))
+                    self.assertLessEqual(abs(has + lacks - 30 * min(share, groups[osd] if beyond else share) / most), 1)
+                    self.assertTrue(not beyond or groups[osd] > share, (osd, bar))
+                    self.assertTrue(not lacks or groups[osd] < share, (osd, bar))
+        self.assertNotIn("█", self.output("df", "o", "c"))
 
     def test_long_commands(self) -> None:
         """A command that takes more than two seconds tells on a terminal what it does, in a line that goes before its

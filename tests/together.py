@@ -8,12 +8,12 @@ of each.
 from __future__ import annotations
 
 import base64
+import contextlib
 import hashlib
 import itertools
 import json
 import os
 import pathlib
-import re
 import shutil
 import signal
 import struct
@@ -31,7 +31,7 @@ from rekhuso.together import Binary, Stop, crush_sum, given, script_in
 from tests.cases import TOP, Case
 from tests.ceph_monitor import WORST
 from tests.clusters import Json, commands, copied, kept
-from tests.fake_rados import World, joined
+from tests.fake_rados import SETTINGS, World, joined
 from tests.live_sessions import Lines
 from tests.reef_tools import ReefMonitor, reef_tools
 from tests.tool_cases import StockCase
@@ -47,25 +47,31 @@ FSID = "9a1c2f62-6f6e-4d4f-8a53-0f5d2a1f7c11"
 # The system's Python, which has librados where Ceph is there.
 SYSTEM = "/usr/bin/python3"
 SECONDS = 120
+# How long the tool may take where a monitor is gone.
+LONG = 600
 # For how long a monitor gathers, in seconds, so that on a busy machine, too, all that belongs together comes meanwhile.
-WAIT = 10
-# The tool, which waits as long between the pairs and the CRUSH map, and tells each command that it gives.
+WAIT = 60
+# For how long the tool waits between two things that it does, so that what is done to it comes between them.
+PAUSE = 4
+# The tool, which waits as long behind the pairs and behind the CRUSH map, and tells each command that it gives.
 TOLD = """
-import os, sys
+import os, sys, time
 sys.path.insert(0, sys.argv[1])
 import together
 
-asked, together.PAUSE, sys.argv = together.Cluster.ask, float(sys.argv[2]), sys.argv[2:]
+asked, until, pause, sys.argv = together.Cluster.ask, together.Giving.until_taken, float(sys.argv[2]), sys.argv[2:]
 
 def told(self, words, *own, **more):
     os.write(1, f"{words['prefix']}\\n".encode())
     return asked(self, words, *own, **more)
 
-together.Cluster.ask = told
+def slow(self, *own):
+    time.sleep(pause)
+    return until(self, *own)
+
+together.Cluster.ask, together.Giving.until_taken = told, slow
 sys.exit(together.main())
 """
-# In how many maps all was made, as it is told.
-TOLD_MAPS = re.compile("in ([1-9][0-9]*) maps?")
 
 
 def compiled(own: Json) -> bytes:
@@ -226,7 +232,7 @@ class Scripts(TogetherCase):
         away = [{"pgid": group, "osds": [1, 2, 3]} for group in groups]
         moving = self.tools.put("moving", dict(self.dump, pg_temp=away))
         words = ["--crush", self.folder / "new.json", "--to", self.script]
-        self.ran("hold", moving, self.files[1], *words, status=1)
+        self.ran("hold", moving, self.files[1], *words, status=11)
         self.assertEqual(self.script.read_text(), before)
         self.assertEqual(sorted(own.name for own in self.folder.iterdir() if "hold" in own.name), ["hold.sh"])
 
@@ -292,7 +298,7 @@ class Refusals(TogetherCase):
                 what,
             )
         self.assertEqual(
-            (world.crush, world.dump["flags"], world.interval), (compiled(OLD), "sortbitwise", "0.5"), what
+            (world.crush, world.dump["flags"], world.settings), (compiled(OLD), "sortbitwise", SETTINGS), what
         )
 
     def test_right(self) -> None:
@@ -303,16 +309,16 @@ class Refusals(TogetherCase):
         self.assertEqual(
             told, f"the CRUSH map and {count} commands in 1 map, none refused; all groups are where they were"
         )
-        self.assertEqual((world.crush, world.dump["flags"], world.interval), (compiled(NEW), "sortbitwise", "0.5"))
+        self.assertEqual((world.crush, world.dump["flags"], world.settings), (compiled(NEW), "sortbitwise", SETTINGS))
         names = [own["prefix"] for own in world.given]
         writes = [name for name in names if name.startswith(("osd pg-", "osd rm-", "osd set", "osd unset"))]
         self.assertEqual(
-            (writes[0], writes[-2:], len(writes)), ("osd set", ["osd setcrushmap", "osd unset"], count + 3)
+            (writes[0], writes[-3:], len(writes)), ("osd set", ["osd setcrushmap", "osd set", "osd unset"], count + 4)
         )
-        self.assertEqual(
-            [own["val"] for own in world.given if own["prefix"] == "config set" and own["target"] == "b"],
-            [["6.0"], ["0.5"]],
-        )
+        sets = [(own["var"], *own["val"]) for own in world.given if own["prefix"] == "config set"]
+        own = [(together.INTERVAL, "6.0"), (together.LEAST, "0"), (together.INTERVAL, "0"), *reversed(SETTINGS.items())]
+        self.assertEqual(sets, own)
+        self.assertEqual({own["target"] for own in world.given if own["prefix"].startswith("config ")}, {"b"})
         self.assertEqual(sorted(own.name for own in self.folder.iterdir() if "before" in own.name), [])
 
     def test_parts(self) -> None:
@@ -374,10 +380,24 @@ class Refusals(TogetherCase):
             ({"require_min_compat_client": ""}, "it takes no pairs"),
             ({"require_osd_release": "kraken"}, "it takes no pairs: require_osd_release is kraken"),
             ({"pools": self.dump["pools"][:1]}, "it has no group "),
-            ({"pools": changed("pg_num", 1)}, "pool 2 has no longer 512 groups placed by 512"),
-            ({"pools": changed("pg_placement_num", -1)}, "pool 2 has no longer 512 groups placed by 512"),
-            ({"pools": changed("pg_num_target", 1)}, "pool 2 has no longer 512 groups placed by 512"),
+            ({"pools": changed("pg_num", 1)}, "pool 1 has no longer 1 groups placed by 1"),
+            ({"pools": changed("pg_placement_num", -1)}, "pool 1 has no longer 1 groups placed by 1"),
+            ({"pools": changed("pg_num_target", 1)}, "pool 1 has no longer 1 groups placed by 1"),
             ({"osds": self.dump["osds"][:2]}, "it has no osd."),
+        ]
+        for change, words in changes:
+            with self.subTest(words=words):
+                world = self.world()
+                world.dump.update(change)
+                self.assertIn(f"refused: {words}", self.told(world))
+                self.has_given_nothing(world)
+        osds = [{**own, "weight": 0.5 if own["osd"] == 3 else own["weight"]} for own in self.dump["osds"]]
+        again = "than in the dump: dump again, and make the script again"
+        changes = [
+            ({"osds": osds}, f"a reweight is another {again}"),
+            ({"pg_upmap_items": self.dump["pg_upmap_items"][1:]}, f"an exception is another {again}"),
+            ({"pools": changed("size", -510)}, "the size or the rule of a pool is another"),
+            ({"pools": changed("crush_rule", 0)}, "the size or the rule of a pool is another"),
         ]
         for change, words in changes:
             with self.subTest(words=words):
@@ -393,6 +413,7 @@ class Refusals(TogetherCase):
     def has_given_nothing(self, world: World) -> None:
         """Asks that nothing but questions was given."""
         asked = {"quorum_status", "osd dump", "osd crush dump", "pg map", "osd getcrushmap", "config get"}
+        asked.add("config-key dump")
         self.assertLessEqual({own["prefix"] for own in world.given}, asked)
 
     def test_no_files_for_it(self) -> None:
@@ -426,6 +447,11 @@ class Refusals(TogetherCase):
                     world = self.world()
                     world.refused[prefix] = (at, at)
                     told = self.told(world)
+                    if prefix in ("ops", "config-key dump"):
+                        # A monitor that does not tell what it has taken is asked otherwise; and a keyring that may not
+                        # ask for other givers sees none.
+                        self.assertRegex(told, "in [0-9]+ maps?, none refused; all groups are where they were$")
+                        continue
                     self.assertIn(prefix, told)
                     self.assertStarts(told, "refused: ")
                     self.tells(world, told)
@@ -433,13 +459,61 @@ class Refusals(TogetherCase):
     def tells(self, world: World, told: str) -> None:
         """Asks that a line tells how a cluster stands."""
         if "is not put back" not in told:
-            self.assertEqual(world.interval, "0.5", told)
+            self.assertEqual(world.settings, SETTINGS, told)
         if "norebalance" in world.dump["flags"]:
             self.assertRegex(told, "norebalance is (left )?set|osd unset norebalance: refused", told)
         elif world.crush == compiled(OLD):
             self.is_as_it_was(world, told)
         else:
             self.assertIn("the CRUSH map is the new one", told)
+
+    def test_older_monitor(self) -> None:
+        """A monitor that does not tell what it has taken is asked a question behind the pairs, and behind the CRUSH
+        map."""
+        world = self.world()
+        world.tells = False
+        count = len(script_in(self.script.read_text()).commands)
+        # On a busy machine the question may be answered once the monitor has made a map of the pairs.
+        wanted = f"^the CRUSH map and {count} commands in (1 map|2 maps), none refused; all groups"
+        self.assertRegex(self.told(world), wanted)
+        names = [own["prefix"] for own in world.given]
+        # Threads give the pairs, in any order, and the question with them.
+        first = min(at for at, name in enumerate(names) if "pg-upmap" in name)
+        self.assertIn("osd dump", names[first : names.index("osd setcrushmap")])
+        self.assertEqual((world.crush, world.settings), (compiled(NEW), SETTINGS))
+
+    def test_leader_gone(self) -> None:
+        """A leading monitor that is gone has its settings no more, and what it is to have is told."""
+        world = self.world()
+        asked = world.answer
+
+        def answer(words: Json) -> object:
+            """The answer, behind which the leader is gone once the map is to be made at once."""
+            found = asked(words)
+            if words["prefix"] == "config set" and words["val"] == ["0"]:
+                world.quorum = ["a", "c"]
+            return found
+
+        with mock.patch.object(world, "answer", answer):
+            told = self.told(world)
+        own = [f"mon.b is gone: where it runs on, its {name} is to be {value}" for name, value in SETTINGS.items()]
+        self.assertEqual(sorted(told.split("; ")[2:]), sorted(own))
+        self.assertIn("in 1 map, none refused; all groups are where they were; ", told)
+
+    def test_race_lost(self) -> None:
+        """Where the CRUSH map stands and pairs do not, they are given once more, and that is told."""
+        world = self.world()
+        written, left = world.written, itertools.count(1)
+
+        def lost(words: Json, body: bytes) -> Any:
+            """What a command makes of the map: the first pairs nothing."""
+            is_lost = words["prefix"] == "osd pg-upmap-items" and next(left) <= 7
+            return (lambda: None) if is_lost else written(words, body)
+
+        with mock.patch.object(world, "written", lost):
+            told = self.told(world)
+        self.assertIn("none refused, 7 given once more; all groups are where they were", told)
+        self.assertEqual((world.crush, world.dump["flags"], world.settings), (compiled(NEW), "sortbitwise", SETTINGS))
 
     def test_pairs_refused(self) -> None:
         """Where a pair is refused the CRUSH map is not given, and the pairs that were taken are taken back."""
@@ -471,9 +545,15 @@ class Refusals(TogetherCase):
             with self.subTest(at=at), mock.patch.object(together, "ThreadPoolExecutor", interrupting(at)):
                 world = self.world()
                 told = self.told(world)
+                if at > count:
+                    # All stands, so it is a hold, with a note.
+                    self.assertEnds(told, "none refused; all groups are where they were; a signal came meanwhile")
+                    self.assertEqual((world.crush, world.dump["flags"]), (compiled(NEW), "sortbitwise"))
+                    self.assertEqual(world.settings, SETTINGS)
+                    continue
                 self.assertStarts(told, "refused: interrupted; the ")
                 self.tells(world, told)
-                self.assertEqual(world.crush == compiled(NEW), at > count)
+                self.assertEqual(world.crush, compiled(OLD))
 
     def test_interrupted_at_the_end(self) -> None:
         """A signal that comes as nothing more shall end the tool leaves no command that nobody waits for, and not its
@@ -488,11 +568,9 @@ class Refusals(TogetherCase):
                         raise together.Ended(signal.SIGTERM)
 
                 with joined(world), mock.patch.object(together, "hold_back_signals", held):
-                    with self.assertRaises(Stop) as caught:
-                        self.told_in(world, "new", "hold.sh")
-                self.assertStarts(str(caught.exception), "interrupted; the ")
-                self.tells(world, str(caught.exception))
-                self.assertEqual((world.crush, world.interval), (compiled(NEW), "0.5"))
+                    told = self.told_in(world, "new", "hold.sh")
+                self.assertEnds(told, "all groups are where they were; a signal came meanwhile")
+                self.assertEqual((world.crush, world.settings), (compiled(NEW), SETTINGS))
 
     def test_second_signal(self) -> None:
         """A signal ends the tool in order, and no other one then; one that is ignored stays so."""
@@ -517,6 +595,29 @@ class Refusals(TogetherCase):
         self.assertIn(f"with the CRUSH map {kept_map}", told)
         self.assertEqual(kept_map.read_bytes(), compiled(OLD))
         self.assertIn("norebalance", world.dump["flags"])
+
+    def test_filtered(self) -> None:
+        """By a hold of some groups the others move: how many is told before the cluster is asked anything, and that
+        number is wanted; another one is none."""
+        whole = script_in(self.script.read_text())
+        group = next(own.group for own in whole.commands if own.osds)
+        self.hold("--of-pg", group)
+        count = len(script_in((self.folder / "hold.sh").read_text()).goes)
+        self.assertGreater(count, 9)
+        for moves in (None, 0, count - 1, count + 1):
+            world = self.world()
+            with joined(world), self.assertRaises(Stop) as caught:
+                given("conf", [str(self.folder / own) for own in ("new", "hold.sh")], 6.0, moves)
+            self.assertIn(f"{count} groups move by it, as it does not hold them (", str(caught.exception))
+            self.assertEnds(str(caught.exception), f": --moves {count} gives it all the same")
+            self.assertEqual(world.given, [])
+        world = self.world()
+        with joined(world), contextlib.suppress(Stop):
+            given("conf", [str(self.folder / own) for own in ("new", "hold.sh")], 6.0, count)
+        self.assertIn("osd setcrushmap", [own["prefix"] for own in world.given])
+        self.hold()
+        with joined(self.world()), self.assertRaisesRegex(Stop, "no group moves: leave --moves out"):
+            given("conf", [str(self.folder / own) for own in ("new", "hold.sh")], 6.0, 3)
 
     def test_undo(self) -> None:
         """The way back is given with the CRUSH map of before, and leads to what was there."""
@@ -568,8 +669,8 @@ class RealMonitor(TogetherCase):
         return found
 
     def test_monitors(self) -> None:
-        """Scripts that are no whole hold, or for another cluster, change no epoch; one that is right makes the maps
-        that it tells and two for its flag, and moves no group; its undoing leads back."""
+        """Scripts that are no whole hold, or for another cluster, change no epoch; one that is right makes one map and
+        two for its flag, and moves no group; its undoing leads back."""
         self.needs("ceph-mon", bool(self.folders))
         has_rados = (
             os.access(SYSTEM, os.X_OK) and not subprocess.run([SYSTEM, "-c", "import rados"], check=False).returncode
@@ -613,14 +714,11 @@ class RealMonitor(TogetherCase):
         self.assertEqual(status, 0, told)
         count = len(script_in(self.script.read_text()).commands)
         self.assertGreater(count, 3)
-        # A busy machine may hand in the last command behind the interval; then the tool tells of a second map.
-        maps = TOLD_MAPS.search(told)
         self.assertEqual(
-            TOLD_MAPS.sub("in 1 map", told),
-            f"the CRUSH map and {count} commands in 1 map, none refused; all groups are where they were\n",
+            told, f"the CRUSH map and {count} commands in 1 map, none refused; all groups are where they were\n"
         )
-        now, made = self.state(monitor, tools), int(maps[1]) if maps is not None else 0
-        self.assertEqual((now["epoch"], now["flags"]), (before["epoch"] + 2 + made, before["flags"]))
+        now = self.state(monitor, tools)
+        self.assertEqual((now["epoch"], now["flags"]), (before["epoch"] + 3, before["flags"]))
         pairs = {
             own["pgid"]: [osd for pair in own["mappings"] for osd in (pair["from"], pair["to"])]
             for own in now["pg_upmap_items"]
@@ -654,20 +752,29 @@ class RealMonitor(TogetherCase):
         self.assertGreater(len(was), 90)
         self.assertEqual({g: set(own[0]) for g, own in now.items()}, {g: set(own[0]) for g, own in was.items()})
 
-    def interrupted(self, monitor: ReefMonitor, place: str) -> tuple[int, str]:
-        """The status of the tool, and what it tells, where it is ended from outside as it gives a command that begins
-        so."""
+    def interrupted(
+        self, monitor: ReefMonitor, place: str, what: Callable[[subprocess.Popen[bytes]], object]
+    ) -> tuple[int, str]:
+        """The status of the tool, and what it tells, where something is done to it or to the cluster as it gives a
+        command that begins so."""
         files = [monitor.conf, self.folder / "new", self.folder / "hold.sh"]
-        words = [SYSTEM, "-B", "-c", TOLD, PROGRAM.parent, WAIT, *files, "--seconds", WAIT]
+        words = [SYSTEM, "-B", "-c", TOLD, PROGRAM.parent, PAUSE, *files, "--seconds", LONG]
         process = subprocess.Popen(list(map(str, words)), stdout=subprocess.PIPE, stderr=subprocess.PIPE)
         assert process.stdout
         lines = Lines(process.stdout.fileno())
         while (line := lines.next(SECONDS)) is not None and not line.startswith(place):
             pass
+        what(process)
+        told = ""
+        while (own := lines.next(LONG)) is not None:
+            told = own if own.startswith("the CRUSH map") else told
+        _, error = process.communicate(timeout=SECONDS)
+        self.assertIsNotNone(line, error)
+        return process.returncode, told or error.decode()
+
+    def ended(self, process: subprocess.Popen[bytes]) -> None:
+        """Ends the tool from outside."""
         process.send_signal(signal.SIGTERM)
-        _, told = process.communicate(timeout=SECONDS)
-        self.assertIsNotNone(line, told)
-        return process.returncode, told.decode()
 
     def test_signal(self) -> None:
         """Ended from outside, wherever it is, the tool leaves the cluster as it was, with the interval of before."""
@@ -679,10 +786,48 @@ class RealMonitor(TogetherCase):
             for place in ("pg map", "config set", "osd set", "osd pg-upmap"):
                 with self.subTest(place=place):
                     what = "nothing was given" if place == "pg map" else "the cluster is as it was"
-                    self.assertEqual(self.interrupted(monitor, place), (1, f"interrupted; {what}\n"))
+                    self.assertEqual(self.interrupted(monitor, place, self.ended), (1, f"interrupted; {what}\n"))
                     now = self.state(monitor, tools)
                     self.assertEqual((exceptions(now), now["flags"]), (exceptions(self.dump), self.dump["flags"]))
-                    found = self.done(
-                        tools / "ceph", "-c", monitor.conf, "tell", "mon.a", "config", "get", together.INTERVAL
+                    self.has_its_settings(monitor, tools, "a")
+
+    def has_its_settings(self, monitor: ReefMonitor, tools: pathlib.Path, leader: str) -> None:
+        """Asks that a monitor gathers for as long as before."""
+        for name in (together.INTERVAL, together.LEAST):
+            words = [tools / "ceph", "-c", monitor.conf, "tell", f"mon.{leader}", "config", "get", name]
+            self.assertEqual(float(json.loads(self.done(*words))[name]), 0.01, name)
+
+    def test_leader_killed(self) -> None:
+        """Where the leading one of three monitors is killed on the way, the tool finishes what it gave or takes that
+        back, and its line is true."""
+        self.needs("ceph-mon", bool(self.folders))
+        tools = self.folders[0]
+        for place in ("osd pg-upmap", "ops", "osd setcrushmap"):
+            with self.subTest(place=place), ReefMonitor(tools, OSDMAP, 3) as monitor:
+                self.dumped(monitor, tools)
+                self.hold()
+                goal = together.goal_of(script_in(self.script.read_text()).commands, {})
+                asked = self.done(tools / "ceph", "-c", monitor.conf, "quorum_status")
+                leader: str = json.loads(asked)["quorum_leader_name"]
+
+                def kill(_: object, monitor: ReefMonitor = monitor, leader: str = leader) -> None:
+                    """Kills the leading monitor."""
+                    monitor.kill(leader)
+
+                status, told = self.interrupted(monitor, place, kill)
+                now = self.state(monitor, tools)
+                crush = crush_sum(json.loads(self.done(tools / "ceph", "-c", monitor.conf, "osd", "crush", "dump")))
+                self.assertEqual((len(told.splitlines()), now["flags"]), (1, self.dump["flags"]), told)
+                self.assertIn(f"mon.{leader} is gone: where it runs on, its ", told)
+                if "; the cluster is as it was" in told:
+                    self.assertEqual(status, 1, told)
+                    self.assertEqual((exceptions(now), crush), (exceptions(self.dump), crush_sum(OLD["dump"])), told)
+                else:
+                    self.assertIn(
+                        "all groups are where they were" if not status else "; the CRUSH map is the new", told
                     )
-                    self.assertEqual(float(json.loads(found)[together.INTERVAL]), 0.01)
+                    has = together.State(now, crush, {}).exceptions()
+                    self.assertEqual({group: has.get(group, (None, None)) for group in goal}, goal, told)
+                    self.assertEqual(crush, crush_sum(NEW["dump"]))
+                for name in {"a", "b", "c"} - {leader}:
+                    self.has_its_settings(monitor, tools, name)

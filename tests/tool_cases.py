@@ -147,7 +147,7 @@ class StockCase(ToolCase):
     def maps_of(self, name: str, *words: object) -> dict[str, Json]:
         """The maps of a stock cluster that may take several, by their files' names."""
         folder = self.tools.folder / f"{name}-maps"
-        output = self.output("import", "--out", folder, *self.dumps(name), *words)
+        output = self.output("import", "--to", folder, *self.dumps(name), *words)
         self.assertEqual(sorted(output.splitlines()), sorted(map(str, folder.iterdir())))
         return {path.name: json.loads(path.read_text()) for path in sorted(folder.iterdir())}
 

@@ -9,12 +9,14 @@ from __future__ import annotations
 
 import os
 import re
+import shutil
 import subprocess
 import sys
 from collections.abc import Sequence
 
 from rekhuso.command_line import parser
 from rekhuso.commands import COMMANDS as COMMAND_NAMES
+from rekhuso.running import Run, running
 from rekhuso.version import VERSION
 
 from tests.cases import EXAMPLE
@@ -26,6 +28,16 @@ SECONDS = 30
 UNREAD = '{ while (echo) 2> /dev/null; do sleep 0.01; done; "$@"; echo $? >&2; }'
 # The commands that put scripts out, by the same words.
 PUTTING = ("plan", "hold", "release", "drain")
+# Options by the names that they have now, and had before.
+OLDER = (
+    ("plan", "--first", "--max"),
+    ("plan", "--of-pool", "--pool"),
+    ("plan", "--of-class", "--class"),
+    ("hold", "--pgs", "--at"),
+    *((word, f"--of-{own}", f"--{own}") for word in ("hold", "release") for own in ("osd", "host", "pg")),
+    ("release", "--before", "--keep"),
+    ("import", "--to", "--out"),
+)
 
 # Each command that puts something out over the example's map.
 COMMANDS = [
@@ -175,7 +187,7 @@ class ToolErrors(ToolCase):
         )
         self.is_told(
             self.tools.run("whatif", osd, crush, "--down", "3", "--balance"),
-            1,
+            11,
             "no plan is made: --anyway makes one",
             "an outage",
         )
@@ -228,7 +240,7 @@ class ToolErrors(ToolCase):
             ["explain", "x.y"],
             ["explain", "1.²"],
             ["explain", "-1.0"],
-            ["plan", "--max", "abc"],
+            ["plan", "--first", "abc"],
             ["df", "--nothing"],
             ["nothing"],
             ["diff"],
@@ -275,6 +287,22 @@ class ToolErrors(ToolCase):
                 self.assertEqual(found, wanted)
         self.assertEqual(self.output("whatif", "--out", "1", "2", EXAMPLE), self.output("whatif", EXAMPLE, "--out=1,2"))
 
+    def test_older_names(self) -> None:
+        """An option by the name that it had before does what it does by its own, and tells that name; no help has the
+        older one, and where it would mean another thing it is that."""
+        for word, name, older in OLDER:
+            with self.subTest(word=word, older=older):
+                words = [word, "o", "c", *([name, "7"] if word != "plan" else [f"{name}=7"])]
+                heard: list[str] = []
+                with running(Run(heard.append, print)):
+                    wanted = vars(parser((word,)).parse_args(words))
+                    self.assertEqual(heard, [])
+                    told = vars(parser((word,)).parse_args([own.replace(name, older) for own in words]))
+                self.assertEqual({**told, "work": None}, {**wanted, "work": None})
+                self.assertEqual(heard, [f"rekhuso {word}: {older} is {name} now; the older name goes"])
+        self.assertNotIn("--max", self.output("plan", "--help", "--all"))
+        self.is_told(self.tools.run("whatif", EXAMPLE, "--max", "3"), 2, "unrecognized arguments: --max", "")
+
     def test_named_programs(self) -> None:
         """A variable names the program where no option does."""
         words = [sys.executable, "-B", str(TOOLS), "check", str(EXAMPLE)]
@@ -284,39 +312,68 @@ class ToolErrors(ToolCase):
                 done = subprocess.run(words, env=own, capture_output=True, text=True, timeout=SECONDS, check=False)
                 self.assertEqual((done.returncode, "nowhere: no program" in done.stderr), (status, status == 2))
 
+    def test_program_with_checks(self) -> None:
+        """Where no proved program is there, the tools take the one with checks of their repository, and say once that
+        nothing of it is proved; a proved one in its place, on the path, or one that is named goes before it."""
+        place = self.tools.folder / "repository"
+        tools = shutil.copytree(TOOLS, place / "tools" / "rekhuso", ignore=shutil.ignore_patterns("__pycache__"))
+        out, path = place / "crates" / "osdmapd" / "out", place / "path"
+        for folder in (out, path):
+            folder.mkdir(parents=True)
+        (out / "osdmapd.checked").symlink_to(self.tools.program)
+        dumps = map(str, self.tools.dumps("002-built"))
+        words = [sys.executable, "-B", str(tools), "whatif", *dumps, "--out", "1", "--unmatched"]
+        line = f"{out / 'osdmapd.checked'}: checks in place of proofs: nothing of it is proved; `make run` proves one"
+
+        def errors(*more: str) -> list[str]:
+            """What a command tells on standard error, once it has done its work."""
+            named = {"PATH": f"{path}:/usr/bin:/bin"}
+            done = subprocess.run(
+                [*words, *more], env=os.environ | named, capture_output=True, text=True, timeout=SECONDS, check=True
+            )
+            return done.stderr.splitlines()
+
+        self.assertEqual(errors().count(line), 1)
+        self.assertNotIn(line, errors("--program", str(out / "osdmapd.checked")))
+        for proved in (path / "osdmapd", out / "osdmapd"):
+            proved.symlink_to(self.tools.program)
+            self.assertNotIn(line, errors())
+            proved.unlink()
+
     def test_help(self) -> None:
         """The help of a command keeps the paragraphs of its description, and ends with an example that the command
         understands."""
         for command in COMMAND_NAMES:
             with self.subTest(command=command):
-                told = self.output(command, "--help")
+                told = self.output(command, "--help", "--all")
                 self.assertIn(f"\n\n`{command}`: ", told)
                 _, example = told.split("\n\nfor example:\n\n    rekhuso ")
                 self.assertStarts(example, f"{command} ")
                 parser((command,)).parse_args(re.split(" [>|] ", example)[0].split())
-        self.assertIn("\n\nComments above the commands", self.output("plan", "--help"))
+        self.assertIn("\n\nComments above the commands", self.output("plan", "--help", "--all"))
         self.assertEqual(self.output("help", "plan"), self.output("plan", "--help"))
+        self.assertEqual(self.output("help", "plan", "--all"), self.output("plan", "--all", "-h"))
         self.assertEqual(self.output("help"), self.output("--help"))
 
     def test_help_of_options(self) -> None:
         """A use has at most eight rows on a terminal of 80 columns; each option stands in the group of what it does."""
         for command in COMMAND_NAMES:
             with self.subTest(command=command):
-                use = self.output(command, "--help").partition("\n\n")[0].splitlines()
+                use = self.output(command, "--help", "--all").partition("\n\n")[0].splitlines()
                 self.assertLessEqual(sum(-(-len(line) // 80) for line in use), 8, use)
         read, put = "options of what is read", "options of what is put out"
         places = (
             ("whatif", "--out", "options"),
             ("hold", "--out", "options"),
-            ("import", "--out", put),
+            ("import", "--to", put),
             ("import", "--names", put),
             ("df", "--names", read),
-            ("hold", "--at", read),
+            ("hold", "--pgs", read),
             *((command, option, put) for command in PUTTING for option in ("--undo", "--batch", "--to", "--json")),
         )
         for command, option, title in places:
             with self.subTest(command=command, option=option):
-                groups = re.split(r"(?m)^(options.*):$", self.output(command, "--help"))
+                groups = re.split(r"(?m)^(options.*):$", self.output(command, "--help", "--all"))
                 found = [name for name, text in zip(groups[1::2], groups[2::2]) if f"\n  {option} " in text]
                 self.assertEqual(found, [title])
 

@@ -15,7 +15,7 @@ from rekhuso.words import counted, share_words
 
 from tests import model
 from tests.cases import EXAMPLE, example
-from tests.clusters import CLUSTERS, Json, below, commands, copied, places, with_commands
+from tests.clusters import CLUSTERS, STOCK, Json, below, commands, copied, places, with_commands
 from tests.tool_cases import ToolCase
 
 
@@ -59,11 +59,11 @@ class ToolOutput(ToolCase):
                     (("--names", names), [f"{number} ({known['types'][str(number)]})" for number in there]),
                 ):
                     for form in ((), ("--json",)):
-                        found = self.tools.run("whatif", path, f"--each={word}", *options, *form)
-                        self.assertEqual(
-                            found,
-                            (1, "", f"{word}: no type of the map's buckets; there are {', '.join(map(str, wanted))}\n"),
-                        )
+                        status, output, error = self.tools.run("whatif", path, f"--each={word}", *options, *form)
+                        why = f"{word}: no type of the map's buckets; there are {', '.join(map(str, wanted))}"
+                        self.assertEqual((status, error), (1, f"{why}\n"))
+                        told = json.loads(output)["refused"] if form else output
+                        self.assertEqual(told, {"code": "refused", "status": 1, "why": [why]} if form else "")
         hosts = [bucket["id"] for bucket in value["buckets"] if bucket["type"] == 1]
         rows = self.json("whatif", path, "--each", "host", "--names", names)["buckets"]
         before = self.tools.sets(value)
@@ -171,27 +171,32 @@ class ToolOutput(ToolCase):
                 self.assertIn(line, lines)
 
     def test_tree_of_the_page(self) -> None:
-        """The page has the tree with its sums beside the picture, as `df` tells them, and no figure that stays white in
-        the dark."""
+        """The page has the buckets with their sums beside the picture, as `df` tells them, and the OSDs below; and no
+        figure that stays white in the dark."""
         path, names, value, known = self.with_names("002-built")
         told = self.json("df", path)
         page = self.output("report", path, "--names", names)
         sums = next(iter(re.findall('<table class="sums">.*?</table>', page)), "")
         rows = [
-            [html.unescape(cell).strip() for cell in re.findall("<td>(.*?)</td>", row)]
-            for row in re.findall("<tr>(?:<td>.*?)</tr>", sums)
+            [html.unescape(cell).strip() for cell in re.findall('<t[dh](?: scope="row")?>(.*?)</t[dh]>', row)]
+            for row in re.findall('<tr>(?:<th scope="row">.*?)</tr>', sums)
         ]
-        wanted = [known["buckets" if row["id"] < 0 else "osds"][str(row["id"])] for row in told["nodes"]]
-        self.assertEqual([row[0] for row in rows], [*wanted, "TOTAL"])
-        self.assertEqual([int(row[1]) for row in rows], [row["pgs"] for row in [*told["nodes"], told["summary"]]])
+        buckets = [row for row in told["nodes"] if row["id"] < 0]
+        self.assertEqual([row[0] for row in rows], [*(known["buckets"][str(row["id"])] for row in buckets), "TOTAL"])
+        self.assertEqual([int(row[1]) for row in rows], [row["pgs"] for row in [*buckets, told["summary"]]])
         squares = re.findall("<title>(osd[.][0-9]+): ", page.partition("</figure>")[0])
         self.assertEqual(squares, [row["name"] for row in told["nodes"] if row["id"] >= 0])
         roots = [row["share"] for row in told["nodes"] if row["depth"] == 0]
         self.assertLessEqual(abs(sum(roots) - told["summary"]["share"]), 0.005 * (len(roots) + 1))
         self.assertLess(page.index("<svg"), page.index('<table class="sums">'))
-        self.assertLess(page.index('<table class="sums">'), page.index("<h2>OSDs</h2>"))
-        columns = ("NAME", "PGS", "SHARE", "DEVIATION", "RATIO", "STATUS")
-        self.assertIn("".join(f"<th>{name}</th>" for name in columns), sums)
+        before, heading, behind = page.partition(">OSDs</h2>")
+        self.assertTrue(heading and sums in before)
+        numbers = dict(
+            re.findall('<tr><th scope="row">(osd[.][0-9]+)</th><td>([0-9]+)</td>', behind.partition("</table>")[0])
+        )
+        self.assertEqual(numbers, {row["name"]: str(row["pgs"]) for row in told["nodes"] if row["id"] >= 0})
+        columns = ("NAME", "PGS", "SHARE", "RATIO")
+        self.assertIn("".join(f'<th scope="col">{name}</th>' for name in columns), sums)
         self.assertIn("prefers-color-scheme:dark", page)
         self.assertFalse(re.search('<rect[^>]*width="100%"[^>]*fill=', page))
 
@@ -207,6 +212,16 @@ class ToolOutput(ToolCase):
         moved = sum(map(int, re.findall("<title>([0-9]+) from ", between)))
         self.assertGreater(moved, 0)
         self.assertIn(f" and {moved} places move; ", between)
+
+    def test_best_of_plans(self) -> None:
+        """How full any plan leaves the fullest OSD is told where that is more than its share."""
+        for name, is_told in (("001-three-hosts", True), ("003-rook-rgw", False)):
+            own = STOCK[name]
+            with self.subTest(name=name):
+                words = self.tools.put("osd", own["osd_dump"]), self.tools.put("crush", own["crush_dump"])
+                output, error = self.ran("plan", *words, "--json")
+                self.assertEqual(json.loads(output)["cluster"]["least"] >= 1.005, is_told)
+                self.assertEqual("cluster at best: " in error, is_told)
 
     def test_plans_that_are_refused(self) -> None:
         """A pool that the balancer refuses is told where plans are asked for, and is not passed over in silence."""
@@ -234,9 +249,9 @@ class ToolOutput(ToolCase):
     def test_help(self) -> None:
         """Every argument of every command has its help, and each form of `plan` its line of usage."""
         commands = re.findall("^    ([a-z]+) ", self.output("--help"), re.MULTILINE)
-        self.assertEqual(len(commands), 19)
+        self.assertEqual(len(commands), 24)
         for command in commands:
-            usage, _, *parts = self.output(command, "--help").split("\n\n")
+            usage, _, *parts = self.output(command, "--help", "--all").split("\n\n")
             listed = [
                 line
                 for part in parts

@@ -52,7 +52,8 @@ class Unrest(UnrestCase):
     """Pools that are not at rest."""
 
     def test_plan(self) -> None:
-        """`plan` gives no command for such a pool and says why; --pool names it and is refused; --anyway plans it."""
+        """`plan` gives no command for such a pool and says why; --of-pool names it and is refused; --anyway plans
+        it."""
         for name, said in SAID.items():
             with self.subTest(name=name):
                 files, pool = self.files(name), said.partition(":")[0]
@@ -60,7 +61,9 @@ class Unrest(UnrestCase):
                 output, error = self.ran("plan", *files)
                 self.assertIn(f"{pool}: no plan: {WHY[name]}\n", error)
                 self.assertNotIn(f"items {number}.", output)
-                self.is_told(self.tools.run("plan", *files, "--pool", pool), 1, f"{pool}: no plan: {WHY[name]}", name)
+                self.is_told(
+                    self.tools.run("plan", *files, "--of-pool", pool), 1, f"{pool}: no plan: {WHY[name]}", name
+                )
                 self.assertIn(f"items {number}.", self.output("plan", *files, "--anyway"))
 
     def test_json(self) -> None:
@@ -146,10 +149,10 @@ class HeldPools(UnrestCase):
             {"pgid": group, "acting": entry, "state": "active+clean"} for group, entry in self.acting(files).items()
         ]
         path = self.tools.put("pgs", {"pg_stats": groups})
-        told = self.json("hold", "--at", path, *files)
+        told = self.json("hold", "--pgs", path, *files)
         self.assertEqual(set(told["losing"]), lost)
         self.assertEqual([pool["name"] for pool in told["unrest"]], ["vm"])
-        error = self.ran("hold", "--at", path, *files)[1]
+        error = self.ran("hold", "--pgs", path, *files)[1]
         self.assertIn("it is to shrink from 48 to 40 groups; 16 held groups lose their pairs on the way", error)
 
     def acting(self, files: list[pathlib.Path]) -> dict[str, list[int]]:
@@ -159,11 +162,11 @@ class HeldPools(UnrestCase):
         return {group: [int(osd) for osd in own.partition("]")[0][1:].split(",")] for group, own in sets.items()}
 
     def test_growing(self) -> None:
-        """While a pool grows nothing is held, with status 1; --anyway holds it."""
+        """While a pool grows nothing is held, with status 11; --anyway holds it."""
         for name in ("growing", "splitting"):
             with self.subTest(name=name):
                 files = self.files(name)
-                output, error = self.ran("hold", *files, "--weight", "osd.1=2", status=1)
+                output, error = self.ran("hold", *files, "--weight", "osd.1=2", status=11)
                 first, last = error.splitlines()[0], error.splitlines()[-1]
                 self.assertEqual(output, "")
                 self.assertStarts(first, f"{SAID[name]}, and each step of the manager makes other sets: hold when")
@@ -190,8 +193,8 @@ class HeldPools(UnrestCase):
         self.assertEqual([why for _, why in told["unbalanced"]], [WHY["splitting"]])
 
     def test_task(self) -> None:
-        """What docs/CEPH.md says of a split that was run on a live cluster is what the commands tell of its dumps."""
-        own, page = RECORDS["growing"], (TOP / "docs" / "CEPH.md").read_text()
+        """What docs/COMMANDS.md says of a split that was run on a live cluster is what commands tell of its dumps."""
+        own, page = RECORDS["growing"], (TOP / "docs" / "COMMANDS.md").read_text()
         crush = self.tools.put("crush", own["crush_dump"])
         before, amid, grown, held = (
             self.tools.put(key, own[key]) for key in ("before", "osd_dump", "new_osd_dump", "held")
@@ -199,7 +202,7 @@ class HeldPools(UnrestCase):
         table = self.output("df", amid, crush).splitlines()
         told = [line for line in table if line.startswith("vm: ")]
         told += [line for line in self.ran("plan", amid, crush)[1].splitlines() if line.startswith("vm: ")]
-        told += self.ran("hold", before, crush, amid, crush, status=1)[1].splitlines()[:1]
+        told += self.ran("hold", before, crush, amid, crush, status=11)[1].splitlines()[:1]
         output, error = self.ran("hold", before, crush, grown, crush)
         told += error.splitlines()
         told += self.ran("release", held, crush, "--to-plan", "--batch", 10, "--to", "let-go")[1].splitlines()

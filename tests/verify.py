@@ -149,8 +149,8 @@ class LiveGroups(VerifyCase):
         self.assertEqual(sorted(own["group"] for own in told["differ"]), pairs)
 
     def test_page(self) -> None:
-        """What docs/CEPH.md says of such dumps of a live cluster is what `verify` tells."""
-        own, page = LIVE["held"], (TOP / "docs" / "CEPH.md").read_text()
+        """What docs/COMMANDS.md says of such dumps of a live cluster is what `verify` tells."""
+        own, page = LIVE["held"], (TOP / "docs" / "COMMANDS.md").read_text()
         before = dict(own, osd_dump=kept("unrest.json.gz")["growing"]["new_osd_dump"])
         output, _ = self.ran("verify", *self.three(before, own["pgs"]), status=1)
         self.assertIn("\n".join(f"    {line}".rstrip() for line in output.splitlines()[:9]), page)
@@ -216,6 +216,44 @@ class NotTold(VerifyCase):
         output = self.output("verify", *self.changed(113, reported_epoch=epoch - 9))
         self.assertEqual(output, "113 of 113 groups lie where the cluster says\n")
 
+    def test_dates(self) -> None:
+        """Where pools and OSDs have dates, a group that differs and was told earlier is not told yet only if its pool
+        has changed since, or an OSD of one of its sets came up or went down; else it differs. So it is for `plan`."""
+        own = copied(LIVE["bluestore"])
+        epoch, group = own["osd_dump"]["epoch"], own["pgs"][0]["pgid"]
+        number = int(group.split(".")[0])
+        pool = next(pool for pool in own["osd_dump"]["pools"] if pool["pool"] == number)
+        osds = {osd["osd"]: osd for osd in own["osd_dump"]["osds"]}
+        for entry in own["osd_dump"]["pools"]:
+            entry["last_change"] = str(epoch - 90)
+        for osd in osds.values():
+            osd.update(up_from=epoch - 90, down_at=0, lost_at=0)
+        was, now = own["pgs"][0]["up"], [osd for osd in osds if osd not in own["pgs"][0]["up"]]
+        beside = now[len(own["pgs"][0]["up"]) :]
+        other = now[: len(was)]
+        rows = [dict(row, reported_epoch=epoch - 2) for row in own["pgs"]]
+        rows[0].update(up=other, up_primary=other[0])
+
+        def status(*words: object) -> int:
+            """How a command ends."""
+            return self.tools.run(*(words or ("verify", *self.three(own, rows))))[0]
+
+        output, _ = self.ran("verify", *self.three(own, rows), status=1)
+        self.assertIn(
+            "1 of them was told at an earlier epoch, and neither their pools nor their OSDs have chan", output
+        )
+        self.assertEqual(status("plan", *self.three(own, rows)), 1)
+        for entry, key in ((pool, "last_change"), (osds[was[0]], "down_at"), (osds[other[-1]], "up_from")):
+            before = entry[key]
+            for value, ends in ((epoch - 2, 1), (epoch - 1, 0)):
+                entry[key] = str(value) if key == "last_change" else value
+                with self.subTest(key=key, value=value):
+                    self.assertEqual(status(), ends)
+            entry[key] = before
+        if beside:
+            osds[beside[0]]["up_from"] = epoch - 1
+            self.assertEqual(status(), 1)
+
     def test_files(self) -> None:
         """A dump of groups of another form or of another cluster is told, and one without sets."""
         own = LIVE["bluestore"]
@@ -251,7 +289,7 @@ class Guards(VerifyCase):
     """Commands that look by themselves."""
 
     def test_commands(self) -> None:
-        """`plan --pgs`, `hold --at` and `import --check --pgs` do nothing where a group lies elsewhere, but for
+        """`plan --pgs`, `hold --pgs` and `import --check --pgs` do nothing where a group lies elsewhere, but for
         `--anyway`; where all lie there they say nothing of it, and `import` how many."""
         own = told_now("bluestore")
         df = self.tools.put("df", own["df"])
@@ -262,7 +300,7 @@ class Guards(VerifyCase):
         for what, words, wrong in (
             ("planned", ["plan", *good, "--df", df], ["plan", *bad, "--df", df]),
             ("taken for the cluster's", ["import", "--check", *good], ["import", "--check", *bad]),
-            ("held", ["hold", "--at", good[3], *good[:2]], ["hold", "--at", bad[3], *bad[:2]]),
+            ("held", ["hold", "--pgs", good[3], *good[:2]], ["hold", "--pgs", bad[3], *bad[:2]]),
         ):
             with self.subTest(what=what):
                 self.ran(*words)
