@@ -295,8 +295,8 @@ class Judged(Written):
     OPTIONS = ("--journal", "1")
     MADE, STALE = 'change {"base":1}\n', "20 StaleEpoch 1"
     ENDS = {"its answer", "no memory", "no memory at all"}
-    # A run has two threads, whose growths do not always come in the same order: what differs each time counts.
-    TIMES = 10
+    # A run has two threads, whose growths do not always come in the same order: so many runs may share no end.
+    TIMES = 20
 
     def stated(self) -> tuple[Json, list[tuple[str, str]]]:
         return two_blocks(), [("epoch", "epoch 1")]
@@ -338,9 +338,15 @@ class Judged(Written):
 
     def of_pair(self, number: int, sooner: tuple[str, ...], later: tuple[str, ...]) -> tuple[str | None, bool]:
         """What is wrong with a pair with a growth refused, or None; and whether one came to that growth."""
+        ones: set[bool] = set()
+        others: set[bool] = set()
         for _ in range(self.TIMES):
             (one, _), (other, came) = self.ended(number, *sooner), self.ended(number, *later)
-            if {one, other} <= self.ENDS and (one == "no memory") == (other == "no memory"):
+            if not {one, other} <= self.ENDS:
+                break
+            ones.add(one == "no memory")
+            others.add(other == "no memory")
+            if ones & others:
                 return None, came
         return f"{later[0]}: {other}, but {sooner[0]}: {one}".replace("\n", "; "), came
 
