@@ -26,12 +26,16 @@ import sys
 WORKS = {
     "pgtable/src/rooms.rt": "one for each room that groups are placed in",
     "monitor/src/follower.rt": "a follower answers from a map of its own, which has no table and no patch",
+    "verdict/src/judging.rt": "a script is judged over a map of its own, which has no table",
 }
 TOKENS = {
     "crush/src/work.rt": "the one by which a work knows its searches",
     "monitor/src/open.rt": "the one by which members know what they have seen",
 }
-ROOMS = {"state/src/state.rt": "the rooms that all runs of a state are counted in"}
+ROOMS = {
+    "state/src/state.rt": "the rooms that all runs of a state are counted in",
+    "verdict/src/counts.rt": "those of a table from which the groups of each OSD are counted",
+}
 STATES = {"monitor/src/open.rt": "the state of the monitor"}
 FOLLOWERS = {
     "session/src/following.rt": "the follower of a session",

@@ -70,7 +70,7 @@ fn map_of(alloc: Global, parts: MapParts, profile: Profile) -> Result<OsdMap, Re
 }
 
 /// The map that parts state, by the limits of their profile.
-fn whole_map(alloc: Global, parts: MapParts) -> Result<OsdMap, Untold>
+pub(crate) fn whole_map(alloc: Global, parts: MapParts) -> Result<OsdMap, Untold>
     ensures { MatchResult result (λ m. IsStated parts m.map) (IsNoMap parts) }
 {
     let profile = profile_of(&parts.buckets, &parts.rules);

@@ -1,0 +1,5 @@
+pub mod Ordering
+pub mod Cuts
+pub mod Faults
+pub mod Pairs
+pub mod Lines

@@ -1,0 +1,173 @@
+"""`readmap --judge`, which tells what a script does to the map of a cluster's own bytes: plans and releases that the tools
+make of the same file stand, and lead where the program of sessions says; and a script in which a line is changed is in
+doubt at that line.
+
+The maps are those of `read_maps.py`, and the program is the one that it runs.
+"""
+
+from __future__ import annotations
+
+import os
+import pathlib
+import subprocess
+from collections import Counter
+
+from rekhuso import Monitor
+from rekhuso.cluster.cluster import Cluster
+from rekhuso.cluster.conversion import map_of
+from rekhuso.cluster.dumps import both_dumps
+from rekhuso.plans.printed_commands import commands_in
+from rekhuso.program.answers import Up
+from rekhuso.program.maps import Map, with_all_up
+
+from tests.read_maps import SECONDS, comes_in, given, reader
+from tests.tool_cases import StockCase
+
+
+def shown(up: Up) -> str:
+    """A set as the program tells it."""
+    return "[" + ",".join("none" if osd is None else str(osd) for osd in up.places) + "]"
+
+
+def counts_in(monitor: Monitor, value: Map) -> Counter[int]:
+    """How many groups each OSD has."""
+    return Counter(osd for up in monitor.pool_ups(value["pools"]).values() for osd in set(up.places) if osd is not None)
+
+
+class JudgedMaps(StockCase):
+    """Scripts over binary maps."""
+
+    PROGRAMS = ("OSDMAPD", "READMAP")
+
+    def setUp(self) -> None:
+        self.needs(f"program {reader()} (READMAP names another)", os.access(reader(), os.X_OK))
+        super().setUp()
+
+    def judged(self, script: str, path: pathlib.Path) -> tuple[int, list[str], str]:
+        """What the program tells of a script: its status, the lines of its output, and its error."""
+        own = self.tools.put("script", script)
+        words = [reader(), "--judge", own, path]
+        done = subprocess.run(words, capture_output=True, text=True, timeout=SECONDS, check=False)
+        return done.returncode, done.stdout.splitlines(), done.stderr
+
+    def is_as_told(self, script: str, path: pathlib.Path, cluster: Cluster) -> None:
+        """A script stands, each command leads where a session says, and each OSD has as many groups then."""
+        status, lines, error = self.judged(script, path)
+        self.assertEqual((status, error), (0, ""))
+        value, commands = with_all_up(map_of(cluster)), commands_in(script, others_of(script))
+        own = {command.line for command in commands}
+        numbers = [at for at, line in enumerate(script.splitlines(), 1) if line in own]
+        with Monitor(value, program=self.program, stock=True) as monitor:
+            before = counts_in(monitor, value)
+            for at, command, line in zip(numbers, commands, lines):
+                was = monitor.up(command.group)
+                monitor.change(**command.change)
+                now = monitor.up(command.group)
+                self.assertEqual(line, f"line {at}: {command.group} goes from {shown(was)} to {shown(now)}")
+            after = counts_in(monitor, value)
+        osds = sorted(osd["id"] for osd in value["osds"] if osd["exists"])
+        self.assertEqual(lines[len(commands) : -1], [f"osd.{osd} {before[osd]} {after[osd]}" for osd in osds])
+        self.assertEqual(lines[-1], f"{len(commands)} commands, all to be given")
+
+    def test_plans(self) -> None:
+        """The plan of each map that comes in, and the way from the exceptions that it has."""
+        plans = releases = commands = 0
+        for name, data in given():
+            path = self.tools.folder / "osdmap"
+            path.write_bytes(data)
+            cluster, faults = both_dumps(str(path), str(path))
+            if faults or not comes_in(cluster):
+                continue
+            with self.subTest(name):
+                status, plan, _ = self.tools.run("plan", path)
+                if status == 0 and plan:
+                    self.is_as_told(plan, path, cluster)
+                    plans, commands = plans + 1, commands + len(commands_in(plan, others_of(plan)))
+                status, release, _ = self.tools.run("release", path)
+                if status == 0 and release:
+                    self.is_as_told(release, path, cluster)
+                    releases += 1
+        self.assertGreater(plans, 10)
+        self.assertGreater(releases, 0)
+        self.assertGreater(commands, 100)
+
+    def planned(self) -> tuple[str, pathlib.Path, Cluster]:
+        """A plan of three commands or more, with the file of its map."""
+        for _, data in given():
+            path = self.tools.folder / "osdmap"
+            path.write_bytes(data)
+            cluster, faults = both_dumps(str(path), str(path))
+            if not faults and comes_in(cluster):
+                status, plan, _ = self.tools.run("plan", path)
+                if status == 0 and plan.count(" pg-upmap-items ") > 2:
+                    return plan, path, cluster
+        self.fail("no map has such a plan")
+
+    def is_in_doubt(self, script: str, path: pathlib.Path, at: int, why: str) -> None:
+        """A script is in doubt at the line of a place, and only what stands before that line is told."""
+        status, lines, error = self.judged(script, path)
+        self.assertEqual((status, error), (1, ""))
+        self.assertEqual(lines[-1], f"line {at + 1}: in doubt: {why}")
+        own = [place for place, line in enumerate(script.splitlines()) if " pg-upmap-items " in line and place < at]
+        self.assertEqual([line.split(":")[0] for line in lines[:-1]], [f"line {place + 1}" for place in own])
+
+    def test_doubts(self) -> None:
+        """A line of a plan that is changed, or one more."""
+        plan, path, cluster = self.planned()
+        lines = plan.splitlines()
+        own = [at for at, line in enumerate(lines) if " pg-upmap-items " in line]
+        group, (leaves, comes) = lines[own[1]].split(" ")[3], lines[own[1]].split(" ")[4:6]
+        value = map_of(cluster)
+        top, pool = value["max_osd"], max(pool["id"] for pool in value["pools"]) + 1
+        number, groups = next((own["id"], own["pg_num"]) for own in value["pools"] if group.startswith(f"{own['id']}."))
+        gone, known = "a monitor would take it away again: ", "no command that is known"
+        with Monitor(with_all_up(value), program=self.program, stock=True) as monitor:
+            there = monitor.up(group).places
+        idle = next(osd["id"] for osd in value["osds"] if osd["exists"] and osd["id"] not in [*there, int(comes)])
+        refused = "the map refuses it: "
+        for line, why in {
+            f"ceph osd pg-upmap-items {pool}.0 {leaves} {comes}": refused + "UnknownPool",
+            f"ceph osd pg-upmap-items {number}.{groups:x} {leaves} {comes}": refused + "UnknownGroup",
+            f"ceph osd pg-upmap-items {group} {leaves} {top}": refused + "UnknownOsd",
+            f"ceph osd pg-upmap-items {group} {leaves} {leaves}": refused + "BadNewException",
+            f"ceph osd pg-upmap {group} {comes} {comes}": refused + "BadNewException",
+            f"ceph osd pg-upmap-items {group} {idle} {comes}": gone + "none of its pairs does anything",
+            f"ceph osd pg-upmap-items {group} {leaves} {comes} {idle} {comes}": "a monitor would take some of its pairs"
+            " away again",
+            f"ceph osd pg-upmap {group} {' '.join(map(str, there))}": gone + "its set is what the rule gives",
+            f"ceph osd pg-upmap-items {group} {leaves}": known,
+            f"ceph osd pg-upmap-items {group}": known,
+            f"ceph osd pg-upmap-items {group}  {leaves} {comes}": known,
+            f"ceph osd pg-upmap-items {group} {leaves} {comes} ": known,
+            f"ceph osd pg-upmap-items {group} {leaves} 0{comes}": known,
+            f"ceph osd pg-upmap-items {group} {leaves} 65536": known,
+            f"ceph osd pg-upmap-items {group}" + f" {leaves} {comes}" * 21: known,
+            f"ceph osd rm-pg-upmap-items {group} {leaves}": known,
+            f" ceph osd pg-upmap-items {group} {leaves} {comes}": known,
+            f"ceph osd out {leaves}": known,
+            f"now=$(ceph osd out {leaves})": known,
+            f'has "$(ceph osd out {leaves})" it': known,
+            f"has '^fsid' it; ceph osd out {leaves}": known,
+            f"has `ceph osd out {leaves}` it": known,
+            f"has it > file": known,
+            f"has 'it": known,
+            f'at="$(ceph osd out {leaves})"': known,
+            "set +e": known,
+            "set -e\r": known,
+        }.items():
+            with self.subTest(line):
+                self.is_in_doubt("\n".join([*lines[: own[1]], line, *lines[own[1] + 1 :]]) + "\n", path, own[1], why)
+
+    def test_passed(self) -> None:
+        """Lines that give no command, and a script of none."""
+        plan, path, cluster = self.planned()
+        more = ["", "# ceph osd out 1", "set -e", "ceph balancer off", "ceph osd set norebalance", 'at="all is given"']
+        more += ["has '^x $(y)' 'it is \"'", "same '$x' 0a 'words'", "lie 2.1f 3 4", "ceph osd unset norebalance"]
+        self.is_as_told("\n".join([*more, plan]), path, cluster)
+        status, lines, _ = self.judged("", path)
+        self.assertEqual((status, lines[-1]), (0, "0 commands, all to be given"))
+
+
+def others_of(script: str) -> set[str]:
+    """The lines of a script that are neither commands on exceptions nor comments."""
+    return {line for line in script.splitlines() if " pg-upmap" not in line and " rm-pg-upmap" not in line}
