@@ -22,6 +22,8 @@ MOST_PARAMETERS, MOST_COLUMNS = 5, 120
 MOST_LINES = 31
 HEAD = re.compile(r"^( *)(?:pub(?:\(\w+\))? )?fn (\w+)", re.M)
 LOOP = re.compile(r"(?:^|\s)(?:for \S.* in |while |loop \{)")
+# What a file of proofs/ states by itself; not the steps that stand in a module, whose names may be enough.
+LEMMA = re.compile(r"(?:pub )?([^\s:]+) : ")
 
 
 class CountedFunction(NamedTuple):
@@ -85,6 +87,16 @@ def own_code() -> dict[pathlib.Path, str]:
         for path, source in bare.items()
         if "integration_tests" not in path.parts and not {"tests", "tests.rt"} & {*path.parts}
     }
+
+
+def untold(form: re.Pattern[str], texts: dict[pathlib.Path, str]) -> list[str]:
+    """What a pattern finds at the front of lines that have no line of comment right above them, each with its file."""
+    found = []
+    for path, source in texts.items():
+        lines = [line for line in source.splitlines() if not line.startswith("infix")]
+        heads = [(above, form.match(line)) for above, line in zip(lines, lines[1:]) if not line.startswith("--")]
+        found += [f"{path.relative_to(TOP)}: {head[1]}" for above, head in heads if head and not above.startswith("--")]
+    return found
 
 
 def twice(texts: dict[pathlib.Path, str], form: str) -> list[str]:
@@ -154,6 +166,12 @@ class House(Case):
         most = [int(self.said(rf"(\d+) {what}")) for what in ("types and", "definitions have a name")]
         self.assertLessEqual(len(types), most[0], types)
         self.assertLessEqual(len(definitions), most[1], definitions)
+
+    def test_lemmas(self) -> None:
+        """Each lemma of proofs/ has a line above it that says what it says, but for those within a module"""
+        proofs = {path: source for path, source in sources().items() if path.parent.name == "proofs"}
+        self.assertGreater(sum(bool(LEMMA.match(line)) for own in proofs.values() for line in own.splitlines()), 2000)
+        self.assertEqual(untold(LEMMA, proofs), [])
 
     def test_contracts(self) -> None:
         """The page of contracts is what `tools/contracts.py` draws, and has each public function of the library"""
