@@ -40,11 +40,11 @@ least_number n bytes p h =
     let read = number_is n bytes p h in
     omega (arith, read.0, ap (λ (q : ℕ × List ℕ). length q.1) read.1, length-drop n bytes)
 
--- an ID has four bytes
+-- an id has four bytes
 least_id : HasAtLeast 4 (signed w32)
 least_id = least_then 4 0 (number 4) _ (least_number 4) (λ x. least_gives (cast_signed w32 x))
 
--- the ID of a pool has eight bytes
+-- the id of a pool has eight bytes
 least_long : HasAtLeast 8 (signed w64)
 least_long = least_then 8 0 (number 8) _ (least_number 8) (λ x. least_gives (cast_signed w64 x))
 
@@ -133,7 +133,7 @@ least_if false f g one other = other
 
 -- ---- the kinds
 
--- a name has its ID and its length: eight bytes at least
+-- a name has its id and its length: eight bytes at least
 least_name : HasAtLeast 8 name
 unfolding name
 least_name = least_then 4 4 (signed w32) _ least_id (λ id. least_then 4 0 text _ least_text (λ own. least_gives (record { id = id; name = own })))
@@ -157,24 +157,24 @@ least_interval : HasAtLeast 16 interval
 unfolding interval
 least_interval = least_then 8 8 (number 8) _ (least_number 8) (λ first. least_then 8 0 (number 8) _ (least_number 8) (λ size. least_gives (record { first = first; length = size })))
 
--- a snapshot has an ID of eight bytes and a section: 14 bytes at least
+-- a snapshot has an id of eight bytes and a section: 14 bytes at least
 least_snapshot : HasAtLeast 14 snapshot
 unfolding snapshot
 least_snapshot = least_then 8 6 (number 8) _ (least_number 8) (λ id. least_then 6 0 (section 255) _ (least_section 255) (λ _. least_gives (record { id = id })))
 
--- the removed snapshots of a pool have its ID of eight bytes and the length of a list: twelve bytes at least
+-- the removed snapshots of a pool have its id of eight bytes and the length of a list: twelve bytes at least
 least_removed : HasAtLeast 12 removed_snapshots
 unfolding removed_snapshots
 least_removed = least_then 8 4 (signed w64) _ least_long (λ pool. least_then 4 0 (listed 16 interval) _ (least_listed 16 interval (least_weaker 0 16 interval (omega arith) least_interval)) (λ all. least_gives (record { pool = pool; intervals = all })))
 
--- a group has a version, the ID of its pool, its number and four bytes that are passed: 17 bytes
+-- a group has a version, the id of its pool, its number and four bytes that are passed: 17 bytes
 least_group : HasAtLeast 17 group
 unfolding group
 least_group =
     least_then 1 16 (number 1) _ (least_number 1) (λ version. least_then 0 16 (meant (known_version 1 1 version)) _ (least_meant (known_version 1 1 version)) (λ _. least_then 8 8 (signed w64) _ least_long
     (λ pool. least_then 4 4 (number 4) _ (least_number 4) (λ n. least_then 4 0 (skip 4) _ (least_skip 4) (λ _. least_gives (record { pool = pool; number = n }))))))
 
--- a list of IDs has the four bytes of its length at least
+-- a list of ids has the four bytes of its length at least
 least_ids : HasAtLeast 4 (listed 4 (signed w32))
 least_ids = least_listed 4 (signed w32) (least_weaker 0 4 (signed w32) (omega arith) least_id)
 
@@ -183,12 +183,12 @@ least_group_osds : HasAtLeast 21 group_osds
 unfolding group_osds
 least_group_osds = least_then 17 4 group _ least_group (λ own. least_then 4 0 (listed 4 (signed w32)) _ least_ids (λ all. least_gives (record { group = own; osds = all })))
 
--- the primary of a group has the group and an ID: 21 bytes
+-- the primary of a group has the group and an id: 21 bytes
 least_group_primary : HasAtLeast 21 group_primary
 unfolding group_primary
 least_group_primary = least_then 17 4 group _ least_group (λ own. least_then 4 0 (signed w32) _ least_id (λ osd. least_gives (record { group = own; osd = osd })))
 
--- a pair has two IDs: eight bytes
+-- a pair has two ids: eight bytes
 least_pair : HasAtLeast 8 pair
 unfolding pair
 least_pair = least_then 4 4 (signed w32) _ least_id (λ one. least_then 4 0 (signed w32) _ least_id (λ other. least_gives (record { from = one; to = other })))
@@ -198,13 +198,13 @@ least_group_pairs : HasAtLeast 21 group_pairs
 unfolding group_pairs
 least_group_pairs = least_then 17 4 group _ least_group (λ own. least_then 4 0 (listed 8 pair) _ (least_listed 8 pair (least_weaker 0 8 pair (omega arith) least_pair)) (λ all. least_gives (record { group = own; pairs = all })))
 
--- a pool has an ID of eight bytes and a section: 14 bytes at least
+-- a pool has an id of eight bytes and a section: 14 bytes at least
 least_pool : HasAtLeast 14 pool
 unfolding pool
 least_pool =
     least_then 8 6 (signed w64) _ least_long (λ id. least_then 6 0 (section_of 5 fields) _ (least_then 6 0 (section 5) (within fields) (least_section 5) (λ own. least_inside (fields own.version) own.own)) (λ all. least_gives _))
 
--- the name of a pool has the pool's ID of eight bytes and a length: twelve bytes at least
+-- the name of a pool has the pool's id of eight bytes and a length: twelve bytes at least
 least_pool_name : HasAtLeast 12 pool_name
 unfolding pool_name
 least_pool_name = least_then 8 4 (signed w64) _ least_long (λ pool. least_then 4 0 text _ least_text (λ own. least_gives (record { pool = pool; name = own })))
@@ -269,17 +269,17 @@ least_slot : {X : Type 0} (one : Front X) → HasAtLeast 0 one → HasAtLeast 4 
 unfolding slot
 least_slot one any = least_then 4 0 (number 4) (held one) (least_number 4) (least_held one any)
 
--- the class of a device has two IDs: eight bytes
+-- the class of a device has two ids: eight bytes
 least_device_class : HasAtLeast 8 device_class
 unfolding device_class
 least_device_class = least_then 4 4 (signed w32) _ least_id (λ device. least_then 4 0 (signed w32) _ least_id (λ class. least_gives _))
 
--- a shadow has the IDs of its class and of its bucket: eight bytes
+-- a shadow has the ids of its class and of its bucket: eight bytes
 least_shadow : HasAtLeast 8 shadow
 unfolding shadow
 least_shadow = least_then 4 4 (signed w32) _ least_id (λ class. least_then 4 0 (signed w32) _ least_id (λ bucket. least_gives _))
 
--- the shadows of a bucket have its ID and the length of a list: eight bytes at least
+-- the shadows of a bucket have its id and the length of a list: eight bytes at least
 least_shadow_trees : HasAtLeast 8 shadow_trees
 unfolding shadow_trees
 least_shadow_trees = least_then 4 4 (signed w32) _ least_id (λ bucket. least_then 4 0 (listed 8 shadow) _ (least_listed 8 shadow (least_weaker 0 8 shadow (omega arith) least_shadow)) (λ all. least_gives _))
@@ -295,7 +295,7 @@ least_bucket_weights =
     least_then 4 8 (number 4) _ (least_number 4) (λ place. least_then 4 4 (listed 4 (listed 4 (number 4))) _ (least_listed 4 (listed 4 (number 4)) (least_weaker 0 4 (listed 4 (number 4)) (omega arith) least_words))
     (λ weights. least_then 4 0 (listed 4 (signed w32)) _ least_ids (λ ids. least_gives _)))
 
--- a weight set has the ID of its pool, of eight bytes, and the length of a list: twelve bytes at least
+-- a weight set has the id of its pool, of eight bytes, and the length of a list: twelve bytes at least
 least_weight_set : HasAtLeast 12 weight_set
 unfolding weight_set
 least_weight_set = least_then 8 4 (signed w64) _ least_long (λ pool. least_then 4 0 (listed 12 bucket_weights) _ (least_listed 12 bucket_weights (least_weaker 0 12 bucket_weights (omega arith) least_bucket_weights)) (λ all. least_gives _))
