@@ -35,6 +35,8 @@ NOT_LOOKED_FOR = {"Memory"}
 KEY_OF_MAP = "A key of a map"
 PART_OF_CHANGE = "A part of a change"
 OPTION, LIMIT = "An option of a program", "A limit that is raised"
+# A file beside crates that has so many of the options of the programs has a place for one more.
+MANY_OPTIONS = 6
 # The types of what has keys of a map, by the files that declare them: what is stated of one, and what it has of an OSD.
 TYPES_OF_KEYS = {
     "MapParts": "mapparts/src/parts.rt",
@@ -183,7 +185,7 @@ BY_HAND: dict[str, dict[str, dict[str, str]]] = {
             "crates/osdmapstore/src/word.rt": "fn is_word",
             "crates/osdmapstore/specs/Words.antt": "is_word",
         },
-        "it has fewer than half of the options": {
+        "it has few of the options": {
             "README.md": "--stock",
             "CHANGELOG.md": "--stock",
             "tests/program.json": "--stock",
@@ -368,16 +370,16 @@ def by_refusals() -> set[pathlib.Path]:
 
 
 def by_options() -> set[pathlib.Path]:
-    """The files of crates that have an option of a program, or the type of all, and other files that have half of
+    """The files of crates that have an option of a program, or the type of all, and other files that have several of
     them; but for the word of a table of stores."""
-    own = options_of_programs()
-    words = "|".join(sorted({*own} - {"journal"}))
+    own = {*options_of_programs()}
+    words = "|".join(sorted(own - {"journal"}))
     form = rf'"(?:{words})"|\b(?:Session)?Options\b'
     crates = {path for path, source in sources_of_things().items() if re.search(form, source)}
     beside = {
         path
         for path, source in beside_crates().items()
-        if sum(bool(re.search(rf"--{word}(?![\w-])", source)) for word in own) >= len(own) / 2
+        if sum(bool(re.search(rf"--{word}(?![\w-])", source)) for word in own) >= MANY_OPTIONS
     }
     return crates | beside
 
