@@ -14,7 +14,7 @@ from tests.pages import flat, text
 sys.path.append(str(TOP / "tools"))
 
 from rekhuso.plans import rounds  # noqa: E402
-from rekhuso.program import map_forms, stores  # noqa: E402
+from rekhuso.program import map_forms, monitor, stores  # noqa: E402
 
 NUMBER = r"(\d(?:[\d,]*\d)?)"
 # Where the constants stand, by the crate and the file.
@@ -26,9 +26,10 @@ FILES = {
     "ticketlock": ("limits",),
     "epochlog": ("row",),
     "server": ("runs",),
-    "session": ("holding",),
+    "session": ("holding", "watch"),
     "partjson": ("whole",),
-    "osdmapstore": ("line",),
+    "mapstore": ("keep",),
+    "osdmapstore": ("line", "word"),
 }
 # Constants that stand in others, by the crates from which they are imported.
 GREATEST = {"u32::MAX": 2**32 - 1, "u64::MAX": 2**64 - 1}
@@ -118,7 +119,11 @@ TOLD: list[tuple[str, str, str]] = [
     ("docs/FORMATS.md", "MAP SCRIPT..` takes 1 to {} scripts.", "server.MAX_SCRIPTS"),
     ("docs/FORMATS.md", "how many changes the journal holds: 1 to {}, and", "epochlog.MAX_CAPACITY"),
     ("docs/FORMATS.md", "serves at most {} scripts as `osdmapd` does", "server.MAX_SCRIPTS"),
-    ("docs/FORMATS.md", "`--keep N` (0 to {};", "osdmapstore.MOST_KEPT"),
+    ("docs/FORMATS.md", "`--keep N` (0 to {}; {} where it was never given)", "osdmapstore.MOST_KEPT mapstore.KEPT"),
+    ("docs/FORMATS.md", "a start with scripts leaves {} changes,", "mapstore.KEPT"),
+    ("docs/FORMATS.md", "1 to {} characters of visible ASCII, so no space", "osdmapstore.LONGEST"),
+    ("docs/FORMATS.md", "An `await` gives up after {} looks", "session.MAX_LOOKS"),
+    ("docs/FORMATS.md", "| 34 | AwaitSpent | {} looks", "session.MAX_LOOKS"),
     ("docs/COMMANDS.md", "as one map has at most {} pools", "mapparts.MAX_POOLS"),
     ("docs/COMMANDS.md", "A round has at most {} moves a pool", "balancer.MAX_MOVES"),
     (
@@ -152,6 +157,8 @@ TOLD: list[tuple[str, str, str]] = [
     ("docs/LIBRARY.md", "how many moves at most (1 to {}),", "balancer.MAX_MOVES"),
     ("docs/PROVED.md", "of up to {} seats and any number of followers", "ticketlock.MAX_SEATS"),
     ("docs/PROVED.md", "At most {} questions that follow one another", "session.LINES_IN_A_HOLD"),
+    ("docs/PROVED.md", "The looks of an `await` are {} where", "session.MAX_LOOKS"),
+    ("docs/PROVED.md", "is not 1 to {} characters of visible ASCII", "osdmapstore.LONGEST"),
     ("docs/DESIGN.md", "of up to {} seats and any number of followers", "ticketlock.MAX_SEATS"),
     ("docs/DESIGN.md", "{}, the most seats", "ticketlock.MAX_SEATS"),
     ("docs/DESIGN.md", "up to {} lines, and then the hold is given back", "session.LINES_IN_A_HOLD"),
@@ -234,6 +241,9 @@ class LimitsTold(Case):
         self.assertEqual(map_forms.ITEMS, constant("buckets.MAX_ITEMS", self.texts))
         self.assertEqual(rounds.MOST_MOVES, constant("balancer.MAX_MOVES", self.texts))
         self.assertEqual(stores.RUN_MOST, constant("epochlog.MAX_CAPACITY", self.texts))
+        self.assertEqual(int(monitor.MOST_KEPT), constant("osdmapstore.MOST_KEPT", self.texts))
+        longest = constant("osdmapstore.LONGEST", self.texts)
+        self.assertTrue(monitor.BY.fullmatch("~" * longest) and not monitor.BY.fullmatch("~" * (longest + 1)))
 
     def test_raised(self) -> None:
         """A limit that is raised is not that of the pages any more"""

@@ -191,6 +191,26 @@ BY_HAND: dict[str, dict[str, dict[str, str]]] = {
             "tests/program.json": "--stock",
         },
     },
+    LIMIT: {
+        "the limit stands there as a number within a definition": {
+            "crates/mapstore/specs/Kept.antt": "kept_count AsNoted None = ",
+            "crates/osdmapstore/specs/Words.antt": "nat_le \\(length text\\)",
+        },
+        "help or an error tells the limit": {
+            "crates/cli/src/arguments.rt": "changes the journal holds: 1 to",
+            "crates/osdmapd/src/line.rt": "1 to .* scripts",
+            "crates/osdmapstore/src/ending.rt": "not 1 to .* characters",
+            "crates/osdmapstore/specs/Endings.antt": "not 1 to .* characters",
+        },
+        "it has rows at limits of another kind": {
+            "tests/balance.json": r'"balance 1 \d+", "err 33',
+            "tests/stock.json": r'"balance 1 \d+ 256 \[\]", "err 33',
+            "tests/texts.json": "nested lists",
+            "tests/sessions.json": "AwaitSpent",
+            "tests/program.json": "too many scripts",
+            "tests/store_files.py": "--keep=",
+        },
+    },
 }
 
 
@@ -385,10 +405,14 @@ def by_options() -> set[pathlib.Path]:
 
 
 def by_limits() -> set[pathlib.Path]:
-    """The files that have limits: those of crates which declare or define them, pages that tell one, tests by their
-    names, and the modules of the tools whose limits are held to those of the crates."""
+    """The files that have limits: those of crates which declare or define them, as constants or as numbers by the names
+    of limits, pages that tell one, tests by their names, and the modules of the tools whose limits are held to those of
+    the crates."""
     files = {TOP / "crates" / crate / "src" / f"{name}.rt" for crate, names in FILES.items() for name in names}
-    declared = r"^pub const (?:MAX|PLAIN)_|\.declared\.(?:limits|plain)\.TheConstants\b"
+    declared = (
+        r"^pub const (?:MAX|PLAIN)_|\.declared\.(?:limits|plain)\.TheConstants\b"
+        r"|^abbrev pub (?:(?:max|most|least|plain)_\w+|lines_in_a_hold) : ℕ$"
+    )
     files |= {path for path, source in sources_of_things().items() if re.search(declared, source, re.M)}
     imports = re.findall(r"^from rekhuso\.(\w+) import ([\w, ]+?)(?:  #.*)?$", text("tests", "limits_told.py"), re.M)
     files |= {TOP / "tools/rekhuso" / part / f"{own}.py" for part, names in imports for own in names.split(", ")}
