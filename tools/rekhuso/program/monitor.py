@@ -288,6 +288,9 @@ class Monitor(Session):
     def close(self) -> None:
         """Ends the sessions and the program: it ends once it has answered what it was asked. A second call does
         nothing.
+
+        >>> monitor.close()
+        >>> monitor.close()
         """
         self._is_closed = True
         for session in self.sessions:
