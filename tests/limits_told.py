@@ -13,8 +13,7 @@ from tests.pages import flat, text
 
 sys.path.append(str(TOP / "tools"))
 
-from rekhuso.plans import rounds  # noqa: E402
-from rekhuso.program import map_forms, monitor, stores  # noqa: E402
+from rekhuso.program import map_forms, monitor, session  # noqa: E402
 
 NUMBER = r"(\d(?:[\d,]*\d)?)"
 # Where the constants stand, by the crate and the file.
@@ -239,8 +238,13 @@ class LimitsTold(Case):
                 {key: constant(name, self.texts) for key, name in names.items()},
             )
         self.assertEqual(map_forms.ITEMS, constant("buckets.MAX_ITEMS", self.texts))
-        self.assertEqual(rounds.MOST_MOVES, constant("balancer.MAX_MOVES", self.texts))
-        self.assertEqual(stores.RUN_MOST, constant("epochlog.MAX_CAPACITY", self.texts))
+        self.assertEqual(map_forms.FULL_WEIGHT, constant("crush.FULL_WEIGHT", self.texts))
+        self.assertEqual(map_forms.LOWEST_BUCKET, constant("buckets.LOWEST_BUCKET", self.texts))
+        steps = {**dict.fromkeys(map_forms.TRIES, "TRIES"), "set_chooseleaf_vary_r": "VARY"}
+        for word, name in {**steps, "set_chooseleaf_stable": "STABLE"}.items():
+            self.assertEqual(map_forms.RANGES[word][0][1], constant(f"crush.MAX_{name}", self.texts))
+        self.assertEqual(session.MOST_MOVES, constant("balancer.MAX_MOVES", self.texts))
+        self.assertEqual(monitor.RUN_MOST, constant("epochlog.MAX_CAPACITY", self.texts))
         self.assertEqual(int(monitor.MOST_KEPT), constant("osdmapstore.MOST_KEPT", self.texts))
         longest = constant("osdmapstore.LONGEST", self.texts)
         self.assertTrue(monitor.BY.fullmatch("~" * longest) and not monitor.BY.fullmatch("~" * (longest + 1)))
