@@ -32,7 +32,8 @@ FILES = {
 }
 # Constants that stand in others, by the crates from which they are imported.
 GREATEST = {"u32::MAX": 2**32 - 1, "u64::MAX": 2**64 - 1}
-# What a page says, `{}` for each number, and the constants, by their crates, in the order of the numbers.
+# What a page says, or the help or an error of a program, `{}` for each number, and the constants, by their crates, in
+# the order of the numbers.
 PLAIN, WIDE = "buckets.PLAIN_DEVICES crush.PLAIN_BUCKETS", "buckets.MAX_DEVICES crush.MAX_BUCKETS buckets.MAX_STRAWS"
 POOLS = "mapparts.PLAIN_POOLS mapparts.PLAIN_GROUPS"
 KEYS = "mapparts.PLAIN_ENTRIES mapparts.MAX_ENTRIES"
@@ -165,6 +166,14 @@ TOLD: list[tuple[str, str, str]] = [
     ("crates/ticketlock/README.md", "the lock and its seats, 1 to {};", "ticketlock.MAX_SEATS"),
     ("crates/server/README.md", "how many changes the run takes, 1 to {},", "epochlog.MAX_CAPACITY"),
     ("crates/server/README.md", "whose epoch is 1 to {},", "mapparts.MAX_FIRST_EPOCH"),
+    ("crates/cli/src/arguments.rt", "How many changes the journal holds: 1 to {}", "epochlog.MAX_CAPACITY"),
+    ("crates/osdmapd/src/line.rt", "change {{..}}; 1 to {} scripts", "server.MAX_SCRIPTS"),
+    ("crates/osdmapstore/src/line.rt", "How many changes a run takes: 1 to {}", "epochlog.MAX_CAPACITY"),
+    ("crates/osdmapstore/src/line.rt", "0 to \\ {}; {} where it was never said", "osdmapstore.MOST_KEPT mapstore.KEPT"),
+    ("crates/osdmapstore/src/line.rt", "change {{..}}; at most {} \\ scripts", "server.MAX_SCRIPTS"),
+    ("crates/osdmapstore/src/line.rt", "at most {} characters of visible", "osdmapstore.LONGEST"),
+    ("crates/osdmapstore/src/ending.rt", "is not 1 to {} characters of visible ASCII", "osdmapstore.LONGEST"),
+    ("crates/osdmapstore/specs/Endings.antt", "is not 1 to {} characters of visible ASCII", "osdmapstore.LONGEST"),
 ]
 
 
@@ -206,7 +215,7 @@ class LimitsTold(Case):
         }
 
     def test_pages(self) -> None:
-        """Each limit that a page tells is the constant of its crate"""
+        """Each limit that a page, help or an error tells is the constant of its crate"""
         for page, words, names in TOLD:
             with self.subTest(page=page, words=words):
                 values = [abs(constant(name, self.texts)) for name in names.split()]

@@ -80,7 +80,7 @@ PARTS_OF_PAGES = ["Parts", "A caller", "Proved", "Tested", "Not promised"]
 DIGITS = "one two three four five six seven eight nine ten eleven".split()
 RESULTS = TOP / "bench" / "results"
 # The pages whose sentences are short, and how many words one has at most.
-SHORT = "CEPH COMMANDS REASONS PROVED FORMATS LIVE LIBRARY DECISIONS DESIGN SPEEDS".split()
+SHORT = "CEPH COMMANDS REASONS PROVED FORMATS LIVE LIBRARY DECISIONS DESIGN SPEEDS CARRY".split()
 MOST_WORDS = 35
 NUMBERS = {word: str(number) for number, word in enumerate(DIGITS, 1)}
 NUMBER = r"\d(?:[\d,]*\d)?(?:\.\d+)?"

@@ -196,12 +196,6 @@ BY_HAND: dict[str, dict[str, dict[str, str]]] = {
             "crates/mapstore/specs/Kept.antt": "kept_count AsNoted None = ",
             "crates/osdmapstore/specs/Words.antt": "nat_le \\(length text\\)",
         },
-        "help or an error tells the limit": {
-            "crates/cli/src/arguments.rt": "changes the journal holds: 1 to",
-            "crates/osdmapd/src/line.rt": "1 to .* scripts",
-            "crates/osdmapstore/src/ending.rt": "not 1 to .* characters",
-            "crates/osdmapstore/specs/Endings.antt": "not 1 to .* characters",
-        },
         "it has rows at limits of another kind": {
             "tests/balance.json": r'"balance 1 \d+", "err 33',
             "tests/stock.json": r'"balance 1 \d+ 256 \[\]", "err 33',
@@ -406,8 +400,8 @@ def by_options() -> set[pathlib.Path]:
 
 def by_limits() -> set[pathlib.Path]:
     """The files that have limits: those of crates which declare or define them, as constants or as numbers by the names
-    of limits, pages that tell one, tests by their names, and the modules of the tools whose limits are held to those of
-    the crates."""
+    of limits; pages, help and errors that tell one; tests by their names; and the modules of the tools whose limits are
+    held to those of the crates."""
     files = {TOP / "crates" / crate / "src" / f"{name}.rt" for crate, names in FILES.items() for name in names}
     declared = (
         r"^pub const (?:MAX|PLAIN)_|\.declared\.(?:limits|plain)\.TheConstants\b"
