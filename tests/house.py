@@ -160,17 +160,13 @@ class House(Case):
         self.assertLessEqual(len(wide), most, wide)
 
     def test_names(self) -> None:
-        """No more types and definitions have a name that one of another file has than the page says, and no class of
-        the tools has one"""
+        """No more types and definitions have a name that one of another file has than the page says"""
         specs = {path: source for path, source in sources().items() if "specs" in path.parts}
         types = twice(own_code(), r"^pub(?:\(crate\))? (?:struct|enum|trait) (\w+)")
         definitions = twice(specs, r"^(?:(?:abbrev|unfoldable) pub|pub record) ([\w'-]+)")
         most = [int(self.said(rf"(\d+) {what}")) for what in ("types and", "definitions have a name")]
         self.assertLessEqual(len(types), most[0], types)
         self.assertLessEqual(len(definitions), most[1], definitions)
-        tools = {path: path.read_text("utf-8") for path in (TOP / "tools").rglob("*.py")}
-        self.assertGreater(len(tools), 100)
-        self.assertEqual(twice(tools, r"^class (\w+)"), [])
 
     def test_lines(self) -> None:
         """Each definition of specs/ and each lemma of proofs/, but for steps within a module, has a line above it that
