@@ -22,6 +22,9 @@ MOST_PARAMETERS, MOST_COLUMNS = 5, 120
 MOST_LINES = 31
 HEAD = re.compile(r"^( *)(?:pub(?:\(\w+\))? )?fn (\w+)", re.M)
 LOOP = re.compile(r"(?:^|\s)(?:for \S.* in |while |loop \{)")
+# What a file states by itself; not the steps that stand in a module, whose names may be enough. And what it defines.
+LEMMA = re.compile(r"(?:pub )?([^\s:]+) : ")
+DEFINITION = re.compile(r" *(?:(?:abbrev|unfoldable) (?:pub )?|(?:pub )?(?:record|data) (?=.* where$))([^\s:]+) ")
 
 
 class CountedFunction(NamedTuple):
@@ -85,6 +88,16 @@ def own_code() -> dict[pathlib.Path, str]:
         for path, source in bare.items()
         if "integration_tests" not in path.parts and not {"tests", "tests.rt"} & {*path.parts}
     }
+
+
+def untold(form: re.Pattern[str], texts: dict[pathlib.Path, str]) -> list[str]:
+    """What a pattern finds at the front of lines that have no line of comment right above them, each with its file."""
+    found = []
+    for path, source in texts.items():
+        lines = [line for line in source.splitlines() if not line.startswith("infix")]
+        heads = [(above.strip(), form.match(line)) for above, line in zip(lines, lines[1:]) if line[:2] != "--"]
+        found += [f"{path.relative_to(TOP)}: {head[1]}" for above, head in heads if head and above[:2] != "--"]
+    return found
 
 
 def twice(texts: dict[pathlib.Path, str], form: str) -> list[str]:
@@ -154,6 +167,17 @@ class House(Case):
         most = [int(self.said(rf"(\d+) {what}")) for what in ("types and", "definitions have a name")]
         self.assertLessEqual(len(types), most[0], types)
         self.assertLessEqual(len(definitions), most[1], definitions)
+
+    def test_lines(self) -> None:
+        """Each definition of specs/ and each lemma of proofs/, but for steps within a module, has a line above it that
+        says what it says"""
+        for folder, form in (("specs", DEFINITION), ("specs", LEMMA), ("proofs", LEMMA)):
+            with self.subTest(folder=folder, form=form.pattern):
+                texts = {path: source for path, source in sources().items() if path.parent.name == folder}
+                self.assertGreater(
+                    sum(bool(form.match(line)) for own in texts.values() for line in own.splitlines()), 9
+                )
+                self.assertEqual(untold(form, texts), [])
 
     def test_contracts(self) -> None:
         """The page of contracts is what `tools/contracts.py` draws, and has each public function of the library"""

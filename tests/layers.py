@@ -106,16 +106,16 @@ class Layers(unittest.TestCase):
         self.assertGreater(len(list(graphlib.TopologicalSorter(below).static_order())), 100)
 
     def test_names(self) -> None:
-        """A name that a module takes from another is of one module, and a class has its name alone, so it means one
-        thing; but for the cluster of `together.py`, which is one file by itself."""
+        """A name that a module takes from another is of one module, and a class of tools/ has its name alone, so it
+        means one thing"""
         homes: dict[str, set[pathlib.Path]] = defaultdict(set)
         for _, other, name in imports():
             homes[name].add(other)
         self.assertEqual({name for name, places in homes.items() if len(places) > 1}, set())
-        files = sorted(PACKAGE.rglob("*.py"))
+        files = sorted((TOP / "tools").rglob("*.py"))
         classes = Counter(name for file in files for name in re.findall(r"^class (\w+)", file.read_text(), re.M))
         self.assertGreater(len(classes), 100)
-        self.assertEqual([name for name, count in classes.items() if count > 1], ["Cluster"])
+        self.assertEqual([name for name, count in classes.items() if count > 1], [])
 
     def test_doors(self) -> None:
         """Each package says what it offers: what others take from it itself, and no name that it lacks."""

@@ -13,8 +13,7 @@ from tests.pages import flat, text
 
 sys.path.append(str(TOP / "tools"))
 
-from rekhuso.plans import rounds  # noqa: E402
-from rekhuso.program import map_forms, stores  # noqa: E402
+from rekhuso.program import map_forms, monitor, session  # noqa: E402
 
 NUMBER = r"(\d(?:[\d,]*\d)?)"
 # Where the constants stand, by the crate and the file.
@@ -26,13 +25,15 @@ FILES = {
     "ticketlock": ("limits",),
     "epochlog": ("row",),
     "server": ("runs",),
-    "session": ("holding",),
+    "session": ("holding", "watch"),
     "partjson": ("whole",),
-    "osdmapstore": ("line",),
+    "mapstore": ("keep",),
+    "osdmapstore": ("line", "word"),
 }
 # Constants that stand in others, by the crates from which they are imported.
 GREATEST = {"u32::MAX": 2**32 - 1, "u64::MAX": 2**64 - 1}
-# What a page says, `{}` for each number, and the constants, by their crates, in the order of the numbers.
+# What a page says, or the help or an error of a program, `{}` for each number, and the constants, by their crates, in
+# the order of the numbers.
 PLAIN, WIDE = "buckets.PLAIN_DEVICES crush.PLAIN_BUCKETS", "buckets.MAX_DEVICES crush.MAX_BUCKETS buckets.MAX_STRAWS"
 POOLS = "mapparts.PLAIN_POOLS mapparts.PLAIN_GROUPS"
 KEYS = "mapparts.PLAIN_ENTRIES mapparts.MAX_ENTRIES"
@@ -118,7 +119,11 @@ TOLD: list[tuple[str, str, str]] = [
     ("docs/FORMATS.md", "MAP SCRIPT..` takes 1 to {} scripts.", "server.MAX_SCRIPTS"),
     ("docs/FORMATS.md", "how many changes the journal holds: 1 to {}, and", "epochlog.MAX_CAPACITY"),
     ("docs/FORMATS.md", "serves at most {} scripts as `osdmapd` does", "server.MAX_SCRIPTS"),
-    ("docs/FORMATS.md", "`--keep N` (0 to {};", "osdmapstore.MOST_KEPT"),
+    ("docs/FORMATS.md", "`--keep N` (0 to {}; {} where it was never given)", "osdmapstore.MOST_KEPT mapstore.KEPT"),
+    ("docs/FORMATS.md", "a start with scripts leaves {} changes,", "mapstore.KEPT"),
+    ("docs/FORMATS.md", "1 to {} characters of visible ASCII, so no space", "osdmapstore.LONGEST"),
+    ("docs/FORMATS.md", "An `await` gives up after {} looks", "session.MAX_LOOKS"),
+    ("docs/FORMATS.md", "| 34 | AwaitSpent | {} looks", "session.MAX_LOOKS"),
     ("docs/COMMANDS.md", "as one map has at most {} pools", "mapparts.MAX_POOLS"),
     ("docs/COMMANDS.md", "A round has at most {} moves a pool", "balancer.MAX_MOVES"),
     (
@@ -152,6 +157,8 @@ TOLD: list[tuple[str, str, str]] = [
     ("docs/LIBRARY.md", "how many moves at most (1 to {}),", "balancer.MAX_MOVES"),
     ("docs/PROVED.md", "of up to {} seats and any number of followers", "ticketlock.MAX_SEATS"),
     ("docs/PROVED.md", "At most {} questions that follow one another", "session.LINES_IN_A_HOLD"),
+    ("docs/PROVED.md", "The looks of an `await` are {} where", "session.MAX_LOOKS"),
+    ("docs/PROVED.md", "is not 1 to {} characters of visible ASCII", "osdmapstore.LONGEST"),
     ("docs/DESIGN.md", "of up to {} seats and any number of followers", "ticketlock.MAX_SEATS"),
     ("docs/DESIGN.md", "{}, the most seats", "ticketlock.MAX_SEATS"),
     ("docs/DESIGN.md", "up to {} lines, and then the hold is given back", "session.LINES_IN_A_HOLD"),
@@ -159,6 +166,14 @@ TOLD: list[tuple[str, str, str]] = [
     ("crates/ticketlock/README.md", "the lock and its seats, 1 to {};", "ticketlock.MAX_SEATS"),
     ("crates/server/README.md", "how many changes the run takes, 1 to {},", "epochlog.MAX_CAPACITY"),
     ("crates/server/README.md", "whose epoch is 1 to {},", "mapparts.MAX_FIRST_EPOCH"),
+    ("crates/cli/src/arguments.rt", "How many changes the journal holds: 1 to {}", "epochlog.MAX_CAPACITY"),
+    ("crates/osdmapd/src/line.rt", "change {{..}}; 1 to {} scripts", "server.MAX_SCRIPTS"),
+    ("crates/osdmapstore/src/line.rt", "How many changes a run takes: 1 to {}", "epochlog.MAX_CAPACITY"),
+    ("crates/osdmapstore/src/line.rt", "0 to \\ {}; {} where it was never said", "osdmapstore.MOST_KEPT mapstore.KEPT"),
+    ("crates/osdmapstore/src/line.rt", "change {{..}}; at most {} \\ scripts", "server.MAX_SCRIPTS"),
+    ("crates/osdmapstore/src/line.rt", "at most {} characters of visible", "osdmapstore.LONGEST"),
+    ("crates/osdmapstore/src/ending.rt", "is not 1 to {} characters of visible ASCII", "osdmapstore.LONGEST"),
+    ("crates/osdmapstore/specs/Endings.antt", "is not 1 to {} characters of visible ASCII", "osdmapstore.LONGEST"),
 ]
 
 
@@ -200,7 +215,7 @@ class LimitsTold(Case):
         }
 
     def test_pages(self) -> None:
-        """Each limit that a page tells is the constant of its crate"""
+        """Each limit that a page, help or an error tells is the constant of its crate"""
         for page, words, names in TOLD:
             with self.subTest(page=page, words=words):
                 values = [abs(constant(name, self.texts)) for name in names.split()]
@@ -232,8 +247,16 @@ class LimitsTold(Case):
                 {key: constant(name, self.texts) for key, name in names.items()},
             )
         self.assertEqual(map_forms.ITEMS, constant("buckets.MAX_ITEMS", self.texts))
-        self.assertEqual(rounds.MOST_MOVES, constant("balancer.MAX_MOVES", self.texts))
-        self.assertEqual(stores.RUN_MOST, constant("epochlog.MAX_CAPACITY", self.texts))
+        self.assertEqual(map_forms.FULL_WEIGHT, constant("crush.FULL_WEIGHT", self.texts))
+        self.assertEqual(map_forms.LOWEST_BUCKET, constant("buckets.LOWEST_BUCKET", self.texts))
+        steps = {**dict.fromkeys(map_forms.TRIES, "TRIES"), "set_chooseleaf_vary_r": "VARY"}
+        for word, name in {**steps, "set_chooseleaf_stable": "STABLE"}.items():
+            self.assertEqual(map_forms.RANGES[word][0][1], constant(f"crush.MAX_{name}", self.texts))
+        self.assertEqual(session.MOST_MOVES, constant("balancer.MAX_MOVES", self.texts))
+        self.assertEqual(monitor.RUN_MOST, constant("epochlog.MAX_CAPACITY", self.texts))
+        self.assertEqual(int(monitor.MOST_KEPT), constant("osdmapstore.MOST_KEPT", self.texts))
+        longest = constant("osdmapstore.LONGEST", self.texts)
+        self.assertTrue(monitor.BY.fullmatch("~" * longest) and not monitor.BY.fullmatch("~" * (longest + 1)))
 
     def test_raised(self) -> None:
         """A limit that is raised is not that of the pages any more"""

@@ -80,7 +80,7 @@ PARTS_OF_PAGES = ["Parts", "A caller", "Proved", "Tested", "Not promised"]
 DIGITS = "one two three four five six seven eight nine ten eleven".split()
 RESULTS = TOP / "bench" / "results"
 # The pages whose sentences are short, and how many words one has at most.
-SHORT = ("CEPH.md", "COMMANDS.md", "REASONS.md", "PROVED.md", "FORMATS.md", "LIVE.md", "LIBRARY.md")
+SHORT = "CEPH COMMANDS REASONS PROVED FORMATS LIVE LIBRARY DECISIONS DESIGN SPEEDS CARRY".split()
 MOST_WORDS = 35
 NUMBERS = {word: str(number) for number, word in enumerate(DIGITS, 1)}
 NUMBER = r"\d(?:[\d,]*\d)?(?:\.\d+)?"
@@ -523,9 +523,9 @@ class Pages(Case):
         self.assertFalse(wide)
 
     def test_sentences(self) -> None:
-        """A sentence of a page on what is proved, or on how the program and tools are used, has at most 35 words"""
+        """A sentence of most pages of docs/ has at most 35 words"""
         for name in SHORT:
-            told = sentences(TOP / "docs" / name)
+            told = sentences(TOP / "docs" / f"{name}.md")
             self.assertGreater(len(told), 20)
             self.assertEqual([one for one in told if len(one.split()) > MOST_WORDS], [], name)
 

@@ -35,6 +35,8 @@ NOT_LOOKED_FOR = {"Memory"}
 KEY_OF_MAP = "A key of a map"
 PART_OF_CHANGE = "A part of a change"
 OPTION, LIMIT = "An option of a program", "A limit that is raised"
+# A file beside crates that has so many of the options of the programs has a place for one more.
+MANY_OPTIONS = 6
 # The types of what has keys of a map, by the files that declare them: what is stated of one, and what it has of an OSD.
 TYPES_OF_KEYS = {
     "MapParts": "mapparts/src/parts.rt",
@@ -183,10 +185,24 @@ BY_HAND: dict[str, dict[str, dict[str, str]]] = {
             "crates/osdmapstore/src/word.rt": "fn is_word",
             "crates/osdmapstore/specs/Words.antt": "is_word",
         },
-        "it has fewer than half of the options": {
+        "it has few of the options": {
             "README.md": "--stock",
             "CHANGELOG.md": "--stock",
             "tests/program.json": "--stock",
+        },
+    },
+    LIMIT: {
+        "the limit stands there as a number within a definition": {
+            "crates/mapstore/specs/Kept.antt": "kept_count AsNoted None = ",
+            "crates/osdmapstore/specs/Words.antt": "nat_le \\(length text\\)",
+        },
+        "it has rows at limits of another kind": {
+            "tests/balance.json": r'"balance 1 \d+", "err 33',
+            "tests/stock.json": r'"balance 1 \d+ 256 \[\]", "err 33',
+            "tests/texts.json": "nested lists",
+            "tests/sessions.json": "AwaitSpent",
+            "tests/program.json": "too many scripts",
+            "tests/store_files.py": "--keep=",
         },
     },
 }
@@ -368,25 +384,29 @@ def by_refusals() -> set[pathlib.Path]:
 
 
 def by_options() -> set[pathlib.Path]:
-    """The files of crates that have an option of a program, or the type of all, and other files that have half of
+    """The files of crates that have an option of a program, or the type of all, and other files that have several of
     them; but for the word of a table of stores."""
-    own = options_of_programs()
-    words = "|".join(sorted({*own} - {"journal"}))
+    own = {*options_of_programs()}
+    words = "|".join(sorted(own - {"journal"}))
     form = rf'"(?:{words})"|\b(?:Session)?Options\b'
     crates = {path for path, source in sources_of_things().items() if re.search(form, source)}
     beside = {
         path
         for path, source in beside_crates().items()
-        if sum(bool(re.search(rf"--{word}(?![\w-])", source)) for word in own) >= len(own) / 2
+        if sum(bool(re.search(rf"--{word}(?![\w-])", source)) for word in own) >= MANY_OPTIONS
     }
     return crates | beside
 
 
 def by_limits() -> set[pathlib.Path]:
-    """The files that have limits: those of crates which declare or define them, pages that tell one, tests by their
-    names, and the modules of the tools whose limits are held to those of the crates."""
+    """The files that have limits: those of crates which declare or define them, as constants or as numbers by the names
+    of limits; pages, help and errors that tell one; tests by their names; and the modules of the tools whose limits are
+    held to those of the crates."""
     files = {TOP / "crates" / crate / "src" / f"{name}.rt" for crate, names in FILES.items() for name in names}
-    declared = r"^pub const (?:MAX|PLAIN)_|\.declared\.(?:limits|plain)\.TheConstants\b"
+    declared = (
+        r"^pub const (?:MAX|PLAIN)_|\.declared\.(?:limits|plain)\.TheConstants\b"
+        r"|^abbrev pub (?:(?:max|most|least|plain)_\w+|lines_in_a_hold) : ℕ$"
+    )
     files |= {path for path, source in sources_of_things().items() if re.search(declared, source, re.M)}
     imports = re.findall(r"^from rekhuso\.(\w+) import ([\w, ]+?)(?:  #.*)?$", text("tests", "limits_told.py"), re.M)
     files |= {TOP / "tools/rekhuso" / part / f"{own}.py" for part, names in imports for own in names.split(", ")}

@@ -3,6 +3,7 @@ threads, while nothing is printed."""
 
 from __future__ import annotations
 
+import doctest
 import os
 import pathlib
 import shutil
@@ -16,7 +17,7 @@ from rekhuso import CephCluster, Fault, Monitor
 from rekhuso.faults import Misuse
 
 from tests.binary_maps import maps_of
-from tests.cases import EXAMPLE, TOP, Case, example
+from tests.cases import EXAMPLE, EXAMPLES, TOP, Case, example
 from tests.clusters import STOCK, Json, ceph_set, copied
 from tests.packaged import ran
 from tests.python_files import looked
@@ -78,6 +79,18 @@ class PythonClusters(StockCase):
                 self.are_alike(sets_told(CephCluster(osd, crush, program=self.program)), wanted, name)
                 cluster = CephCluster(osd.decode(), crush.decode(), program=self.program)
                 self.are_alike(sets_told(cluster), wanted, name)
+
+    def test_examples(self) -> None:
+        """Each public function of a cluster has an example, and each example is as it says."""
+        osd, crush, pgs = ((EXAMPLES / "ceph" / f"{name}.json").read_bytes() for name in ("osd", "crush", "pgs"))
+        found = [test for test in doctest.DocTestFinder().find(CephCluster, "", globs={}) if test.examples]
+        public = {f".{name}" for name in vars(CephCluster) if not name.startswith("_")}
+        self.assertEqual({test.name for test in found}, public)
+        for test in found:
+            with self.subTest(test.name):
+                test.globs.update(cluster=CephCluster(osd, crush, program=self.program), pgs=pgs)
+                told: list[str] = []
+                self.assertEqual(doctest.DocTestRunner(verbose=False).run(test, out=told.append).failed, 0, told)
 
     def test_one_file(self) -> None:
         """A binary map goes in as its bytes, and has the maps of the dumps of the same monitor, whose epochs were

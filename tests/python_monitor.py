@@ -214,10 +214,11 @@ class PythonMonitor(Case):
         )
 
     def test_examples(self) -> None:
-        """Each public function of a session has an example, and each example is as it says."""
-        found = doctest.DocTestFinder().find(Session, "Session", globs={})
+        """Each public function of a session and of a monitor has an example, and each example is as it says."""
+        found = [own for kind in (Session, Monitor) for own in doctest.DocTestFinder().find(kind, globs={})]
         shown = {name for test in found for name in re.findall(r"monitor\.(\w+)\(", test.docstring or "")}
-        self.assertEqual({name for name in vars(Session) if not name.startswith("_")} - shown, set())
+        public = {name for kind in (Session, Monitor) for name in vars(kind) if not name.startswith("_")}
+        self.assertEqual(public - shown, set())
         for test in (test for test in found if test.examples):
             with self.subTest(test.name), Monitor(EXAMPLE, self.program, stock=True, timeout=SECONDS) as monitor:
                 test.globs.update(monitor=monitor)

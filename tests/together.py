@@ -59,7 +59,8 @@ import os, sys, time
 sys.path.insert(0, sys.argv[1])
 import together
 
-asked, until, pause, sys.argv = together.Cluster.ask, together.Giving.until_taken, float(sys.argv[2]), sys.argv[2:]
+asked, until = together.ConnectedCluster.ask, together.Giving.until_taken
+pause, sys.argv = float(sys.argv[2]), sys.argv[2:]
 
 def told(self, words, *own, **more):
     os.write(1, f"{words['prefix']}\\n".encode())
@@ -69,7 +70,7 @@ def slow(self, *own):
     time.sleep(pause)
     return until(self, *own)
 
-together.Cluster.ask, together.Giving.until_taken = told, slow
+together.ConnectedCluster.ask, together.Giving.until_taken = told, slow
 sys.exit(together.main())
 """
 

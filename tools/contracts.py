@@ -30,7 +30,7 @@ are what a `&mut` parameter is before and after, `x.now` is what a `&` parameter
 
 
 @dataclass(frozen=True)
-class Function:
+class PublicFunction:
     """A public function: the type that has it, its name, the lines of its head, and what it is for."""
 
     owner: str
@@ -69,7 +69,7 @@ def about(lines: list[str], place: int) -> str:
     return re.split(r"(?<=[.:])\s", text + " ")[0].rstrip(" .:") + "." if text else ""
 
 
-def functions(text: str) -> Iterator[Function]:
+def functions(text: str) -> Iterator[PublicFunction]:
     """The public functions of a source."""
     lines, owner = text.splitlines(), ""
     for place, line in enumerate(lines):
@@ -77,10 +77,10 @@ def functions(text: str) -> Iterator[Function]:
             owner = owner_of(line)
         found = re.match(r"(    )?pub fn (\w+)", line)
         if found:
-            yield Function(owner if found[1] else "", found[2], head_from(lines, place), about(lines, place))
+            yield PublicFunction(owner if found[1] else "", found[2], head_from(lines, place), about(lines, place))
 
 
-def told(one: Function) -> Iterator[str]:
+def told(one: PublicFunction) -> Iterator[str]:
     """The lines of the page for a function."""
     cut = 4 if one.owner else 0
     yield f"\n### `{f'{one.owner}::' if one.owner else ''}{one.name}`\n"

@@ -91,7 +91,7 @@ class Definition(NamedTuple):
     names: frozenset[str]
 
 
-class Module(NamedTuple):
+class DefinitionFile(NamedTuple):
     """A file of definitions: by name what it defines, and from where what it uses comes."""
 
     own: dict[str, Definition]
@@ -128,7 +128,7 @@ def imported(line: str) -> Iterator[tuple[str, tuple[str, str]]]:
             yield other or name, (found[1], name)
 
 
-def module_of(name: str, text: str) -> Module:
+def module_of(name: str, text: str) -> DefinitionFile:
     """A file of definitions, read."""
     parts: dict[str, list[str]] = {}
     uses: dict[str, tuple[str, str]] = {}
@@ -146,10 +146,10 @@ def module_of(name: str, text: str) -> Module:
         head: Definition(name, head, len(lines), frozenset(NAME.findall("\n".join(lines))))
         for head, lines in parts.items()
     }
-    return Module(own, uses)
+    return DefinitionFile(own, uses)
 
 
-def modules(root: pathlib.Path) -> dict[str, Module]:
+def modules(root: pathlib.Path) -> dict[str, DefinitionFile]:
     """All files of definitions, by the names that imports have for them."""
     found = {}
     for path in sorted((root / "crates").glob("*/specs/**/*.antt")):
@@ -171,7 +171,7 @@ def cited_by(root: pathlib.Path, place: str) -> set[tuple[str, str]]:
     return {uses[name] for name in NAME.findall(clauses) if name in uses}
 
 
-def reached(known: dict[str, Module], first: Iterable[tuple[str, str]]) -> set[Definition]:
+def reached(known: dict[str, DefinitionFile], first: Iterable[tuple[str, str]]) -> set[Definition]:
     """The definitions of the repository that some names lead to."""
     found: set[Definition] = set()
     left = [*first]

@@ -60,12 +60,20 @@ class CephCluster:
         return Run(lambda line: self.notes.extend(line.splitlines()), found.append)
 
     def maps(self) -> list[Map]:
-        """The maps that the cluster takes, as `import` makes them. A fault where it stays out."""
+        """The maps that the cluster takes, as `import` makes them. A fault where it stays out.
+
+        >>> [(value["epoch"], len(value["pools"])) for value in cluster.maps()]
+        [(1000, 2)]
+        """
         with running(self._run([])):
             return imported(self._source().dumps()).maps
 
     def sets(self) -> dict[str, Up]:
-        """The up set of each group, with the primaries that Ceph would tell. A fault where the cluster stays out."""
+        """The up set of each group, with the primaries that Ceph would tell. A fault where the cluster stays out.
+
+        >>> cluster.sets()["2.1f"]
+        Up(epoch=1000, places=[0, 7, 8], primary=0)
+        """
         with running(self._run([])):
             return view_with_sets(self._source())[1]
 
@@ -83,6 +91,9 @@ class CephCluster:
         """What a command tells of the cluster with --json: `told("plan", "--until", "1.1", df=df)` has the words that
         are typed behind the dumps, and by the names of options what these would read of files. A fault where it tells
         no object but why it is refused, and `Misuse` for words that mean nothing.
+
+        >>> cluster.told("whatif", "--out", "1")["places"]
+        38
         """
         if command not in COMMANDS or any(word in HELP for word in words):
             raise Misuse(f"{command}: no command that tells an object")
@@ -97,20 +108,36 @@ class CephCluster:
         return found[0]
 
     def plan(self, *words: str, **files: Input) -> Object:
-        """The plan of `plan` with its commands: `plan("--first", "20", df=df, pgs=pgs)`."""
+        """The plan of `plan` with its commands: `plan("--first", "20", df=df, pgs=pgs)`.
+
+        >>> cluster.plan("--first", "1")["commands"]
+        ['ceph osd pg-upmap-items 2.8 7 6']
+        """
         return self.told("plan", *words, **files)
 
     def verify(self, pgs: Input) -> Object:
-        """Which groups lie elsewhere than the cluster says by what `ceph pg dump -f json` prints."""
+        """Which groups lie elsewhere than the cluster says by what `ceph pg dump -f json` prints.
+
+        >>> told = cluster.verify(pgs)
+        >>> told["same"], told["differ"]
+        (129, [])
+        """
         return self.told("verify", pgs=pgs)
 
     def next(self, plan: Input, pgs: Input, *words: str) -> Object:
         """The commands of a plan that may be given now, by where the data is: of what `plan`, `hold`, `release` or
         `drain` has told, or of the text of a script.
+
+        >>> cluster.next(cluster.plan("--first", "1"), pgs)["commands"]
+        ['ceph osd pg-upmap-items 2.8 7 6']
         """
         name = "plan.json" if isinstance(plan, Mapping) else "plan.sh"
         return self.told("next", in_memory(name, plan), *words, pgs=pgs)
 
     def diff(self, other: CephCluster, *words: str) -> Object:
-        """What moves from this cluster to another, as the same one at a later time."""
+        """What moves from this cluster to another, as the same one at a later time.
+
+        >>> cluster.diff(cluster)["places"]
+        0
+        """
         return self.told("diff", *other.files, *words)

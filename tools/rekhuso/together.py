@@ -509,7 +509,7 @@ def some(names: Iterable[str]) -> str:
     return ", ".join(own[:MOST]) + (f" and {len(own) - MOST} more" if len(own) > MOST else "")
 
 
-class Cluster:
+class ConnectedCluster:
     """A cluster, by an open connection of librados, and its leading monitor."""
 
     def __init__(self, rados: Any) -> None:
@@ -669,7 +669,9 @@ class Standing(NamedTuple):
 class Giving:
     """What is given to a cluster: a script, and the CRUSH map with it, if there is one."""
 
-    def __init__(self, cluster: Cluster, script: Script, crush: Optional[bytes], threads: ThreadPoolExecutor) -> None:
+    def __init__(
+        self, cluster: ConnectedCluster, script: Script, crush: Optional[bytes], threads: ThreadPoolExecutor
+    ) -> None:
         """Takes how the cluster stands. A Stop where the script is not for it."""
         self.cluster, self.script, self.crush, self.threads = cluster, script, crush, threads
         self.before = cluster.state(threads)
@@ -1003,7 +1005,7 @@ def job_in(files: List[str], moves: Optional[int]) -> Job:
     return Job(script, crush_in(crush_files[0], script) if crush_files else None, crush_files)
 
 
-def check_alone(cluster: Cluster) -> None:
+def check_alone(cluster: ConnectedCluster) -> None:
     """A Stop where another giver of these tools is at work, by the claim that it has put into the cluster. A keyring
     that may not ask for that sees none.
     """
@@ -1021,14 +1023,14 @@ def given(conf: str, files: List[str], seconds: float, moves: Optional[int] = No
     """
     job, rados = job_in(files, moves), connected(conf)
     try:
-        cluster = Cluster(rados)
+        cluster = ConnectedCluster(rados)
         check_alone(cluster)
         return given_to(cluster, job, seconds)
     finally:
         rados.shutdown()
 
 
-def given_to(cluster: Cluster, job: Job, seconds: float) -> str:
+def given_to(cluster: ConnectedCluster, job: Job, seconds: float) -> str:
     """Gives a job to a cluster, and tells in a line what stands. A Stop where not all does."""
     with ThreadPoolExecutor(ASKING) as threads:
         giving = Giving(cluster, job.script, job.crush, threads)

@@ -1,4 +1,4 @@
--- The limit of a plan; those of maps are crush's and stated's.
+-- The limit of a plan; those of maps stand in crush and mapparts.
 use Rattle.std.specs.Prelude.{ℕ}
 use Rattle.balancer.specs.declared.limits.TheConstants as limits
 

@@ -63,6 +63,7 @@ levels_of steps = filter_map level_chosen steps
 abbrev pub last_level : List ℕ → ℕ
 last_level levels = slice_index levels (length levels - 1)
 
+-- the types that a rule chooses before the last
 abbrev pub earlier_levels : List ℕ → List ℕ
 earlier_levels levels = take (length levels - 1) levels
 

@@ -21,6 +21,7 @@ use Rattle.balancer.specs.Greedy.{good_moves, greedy, after_moves}
 
 -- ---- what refuses a plan
 
+-- what refuses a plan for this pool, if there is one
 abbrev pub plan_fault_of : ClusterMap → Option PoolFacts → Option Refusal
 plan_fault_of m None = Some UnknownPool
 plan_fault_of m (Some p) = refused_unless (has_one_block (steps_of m p)) BalanceRule

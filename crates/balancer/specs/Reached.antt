@@ -71,6 +71,7 @@ AreWidened b emptier marks before now =
 abbrev pub deviation_on : Board → ℕ → ℤ
 deviation_on b osd = deviation (reached b) b.frame.pool (aim_in b) osd
 
+-- the difference of the deviations of two OSDs
 abbrev pub gap_on : Board → ℕ → ℕ → ℤ
 gap_on b from to = gap (reached b) b.frame.pool (aim_in b) from to
 
@@ -94,6 +95,7 @@ good_moves_on b = good_moves (reached b) b.frame.pool (aim_in b)
 abbrev pub IsGoodOn : Board → Move → Type 0
 IsGoodOn b v = IsGood (reached b) b.frame.pool (aim_in b) v
 
+-- a move is the best one
 abbrev pub IsBestOn : Board → Move → Type 0
 IsBestOn b v = IsBest (reached b) b.frame.pool (aim_in b) v
 
@@ -105,6 +107,7 @@ IsBetterOn b old new = IsBetter (reached b) b.frame.pool (aim_in b) old new
 abbrev pub CoversPairOn : Board → Option Move → ℕ → ℕ → Type 0
 CoversPairOn b best from to = CoversPair (reached b) b.frame.pool (aim_in b) best from to
 
+-- the best move so far covers those from an OSD to all candidates
 abbrev pub CoversFromOn : Board → Option Move → ℕ → Type 0
 CoversFromOn b best from = CoversFrom (reached b) b.frame.pool (aim_in b) best from b.frame.osds.items
 

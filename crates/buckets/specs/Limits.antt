@@ -14,6 +14,7 @@ max_level = limits.MAX_LEVEL
 abbrev pub max_items : ℕ
 max_items = limits.MAX_ITEMS
 
+-- the most items of a straw2 bucket
 abbrev pub max_straws : ℕ
 max_straws = limits.MAX_STRAWS
 
@@ -21,6 +22,7 @@ max_straws = limits.MAX_STRAWS
 abbrev pub max_devices : ℕ
 max_devices = limits.MAX_DEVICES
 
+-- the most devices of a plain cluster
 abbrev pub plain_devices : ℕ
 plain_devices = limits.PLAIN_DEVICES
 

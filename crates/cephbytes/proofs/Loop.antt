@@ -11,10 +11,12 @@ use Rattle.cephbytes.specs.Encoding.{Front, Gives, Fails, ◌>>=◌, gives, behi
 abbrev pub with_front : {X : Type 0} → List X → Result (List X × List ℕ) Refused → Result (List X × List ℕ) Refused
 with_front front read = behind (λ xs. gives (front ++ xs)) read
 
+-- an entry that is put before those read behind it is as well put behind those read before it
 regroup : {X : Type 0} (front : List X) (x : X) (read : Result (List X × List ℕ) Refused) → with_front front (behind (λ xs. gives (x ∷ xs)) read) ≡ with_front (front ++ x ∷ []) read
 regroup {X} front x (Ok p) = ap (λ (xs : List X). Ok (xs, p.1)) (simp append_assoc)
 regroup front x (Err f) = refl
 
+-- one entry more: what was read, with what is still read, is the same list as before
 pub goes_on : {X : Type 0} (one : Front X) (front : List X) (count i : ℕ) (bytes : List ℕ) (x : X) (after : List ℕ) (total : Result (List X × List ℕ) Refused) → i < count → one bytes ≡ Ok (x, after)
     → with_front front (entries one (count - i) bytes) ≡ total → with_front (front ++ x ∷ []) (entries one (count - (i + 1)) after) ≡ total
 unfolding entries
@@ -23,6 +25,7 @@ goes_on one front count i bytes x after total lt h so_far =
     let here : with_front front (entries one (count - i) bytes) ≡ with_front (front ++ x ∷ []) (entries one (count - (i + 1)) after) = rw (k, h) (regroup front x (entries one (count - (i + 1)) after)) in
     sym here ∙ so_far
 
+-- a refusal of one entry is the refusal of the list
 pub ends : {X : Type 0} (one : Front X) (e : Refused) (front : List X) (count i : ℕ) (bytes : List ℕ) (total : Result (List X × List ℕ) Refused) → i < count → one bytes ≡ Err e
     → with_front front (entries one (count - i) bytes) ≡ total → total ≡ Err e
 unfolding entries
@@ -37,6 +40,7 @@ pub ends_by : {X : Type 0} (one : Front X) (e : ReadError) (front : List X) (cou
 ends_by one errors.Memory front count i bytes total lt h so_far = tt
 ends_by one (errors.Refused f) front count i bytes total lt h so_far = ends one f front count i bytes total lt h so_far
 
+-- where no more entries are wanted, the list is those that were read
 pub is_done : {X : Type 0} (one : Front X) (front : List X) (count i : ℕ) (bytes : List ℕ) (total : Result (List X × List ℕ) Refused) → count ≤ i → with_front front (entries one (count - i) bytes) ≡ total → total ≡ Ok (front, bytes)
 unfolding entries
 is_done {X} one front count i bytes total le so_far =
@@ -46,16 +50,19 @@ is_done {X} one front count i bytes total le so_far =
 
 -- ---- as many are read as were wanted
 
+-- an entry before as many as were wanted is one more
 one_more : {X : Type 0} (n : ℕ) (x : X) (read : Result (List X × List ℕ) Refused) (p : List X × List ℕ) → ((q : List X × List ℕ) → read ≡ Ok q → length q.0 ≡ n)
     → behind (λ xs. gives (x ∷ xs)) read ≡ Ok p → length p.0 ≡ suc n
 one_more n x (Err e) p as_many h = absurd cc
 one_more n x (Ok q) p as_many h = let t : length q.0 ≡ n = as_many q refl in let e : (x ∷ q.0, q.1) ≡ p = cc in rw (← e) (ap suc t)
 
+-- an entry, and behind it as many as were wanted, are one more
 begun : {X : Type 0} (one : Front X) (n : ℕ) (read : Result (X × List ℕ) Refused) (p : List X × List ℕ) → ((bytes : List ℕ) (q : List X × List ℕ) → entries one n bytes ≡ Ok q → length q.0 ≡ n)
     → behind (λ x. entries one n >>= λ xs. gives (x ∷ xs)) read ≡ Ok p → length p.0 ≡ suc n
 begun one n (Err e) p as_many h = absurd cc
 begun one n (Ok q) p as_many h = one_more n q.0 (entries one n q.1) p (as_many q.1) h
 
+-- a list that is read has as many entries as were wanted
 pub entries_as_many : {X : Type 0} (one : Front X) (n : ℕ) (bytes : List ℕ) (p : List X × List ℕ) → entries one n bytes ≡ Ok p → length p.0 ≡ n
 unfolding entries
 entries_as_many {X} one zero bytes p h = let e : p ≡ ([], bytes) = cc in rw e refl

@@ -9,6 +9,7 @@ use Rattle.cephbytes.specs.declared.cursor.Width.{Width as Bytes}
 use Rattle.cephbytes.specs.declared.cursor.Width.TheVariants.{One, Two, Four, Eight}
 use Rattle.cephbytes.specs.declared.refused.Refused.TheVariants.{Short, TooNew, Trailing, Unknown}
 
+-- what reads a thing at the front of bytes: the thing with the bytes behind it, or what refuses it
 abbrev pub Front : Type 0 → Type 0
 Front X = List ℕ → Result (X × List ℕ) Refused
 
@@ -17,6 +18,7 @@ abbrev pub behind : {X Y : Type 0} → (X → Front Y) → Result (X × List ℕ
 behind g (Ok p) = g p.0 p.1
 behind g (Err e) = Err e
 
+-- one thing, and behind it another by what the first is
 infixl 10 ◌>>=◌
 abbrev pub ◌>>=◌ : {X Y : Type 0} → Front X → (X → Front Y) → Front Y
 f >>= g = λ bs. behind g (f bs)
@@ -80,6 +82,7 @@ pub record Own : Type 0 where
 abbrev pub known : ℕ → ℕ → Front (Unit {0})
 known least knows bs = if nat_lt knows least then Err TooNew else Ok (tt, bs)
 
+-- a section, where its reader knows the least version
 unfoldable pub section : ℕ → Front Own
 section knows = do
   version ← number 1
@@ -120,6 +123,7 @@ inside body own bs = behind (λ x _. gives x bs) (body own)
 abbrev pub within : {X : Type 0} → (ℕ → Front X) → Own → Front X
 within body s = inside (body s.version) s.own
 
+-- a section by what is read at the front of its own bytes, which goes by its version
 abbrev pub section_of : {X : Type 0} → ℕ → (ℕ → Front X) → Front X
 section_of knows body = do
   s ← section knows
@@ -160,6 +164,7 @@ abbrev pub Fails : {Y : Type 0} → ReadError → Result Y Refused → Type 0
 Fails errors.Memory read = Unit {0}
 Fails (errors.Refused e) read = read ≡ Err e
 
+-- a function returned what reading gives, seen by view, or failed as reading does
 abbrev pub Gives : {X Y : Type 0} → (X → Y) → Result X ReadError → Result Y Refused → Type 0
 Gives view (Ok x) read = read ≡ Ok (view x)
 Gives view (Err e) read = Fails e read

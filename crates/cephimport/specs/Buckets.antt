@@ -23,6 +23,7 @@ kind_by_weights (Tree _) = kinds.Tree
 kind_by_weights (Straw _) = kinds.Straw2
 kind_by_weights (Straw2 _) = kinds.Straw2
 
+-- a bucket with these weights is a straw2 bucket in the map
 abbrev pub is_straw2 : Weights → Bool
 is_straw2 (Uniform _) = false
 is_straw2 (Listed _) = false
@@ -50,6 +51,7 @@ held_item sets b i id =
     if weight_in_force sets b i == 0 && is_straw2 b.weights then None
     else Some (record { id = id; weight = pos (weight_in_force sets b i) })
 
+-- the items that a bucket holds, each with its weight, in their order
 abbrev pub weighing_of : List WeightSet → Bucket → List ℤ → List ItemPart
 weighing_of sets b ids = filter_map (λ p. held_item sets b p.0 p.1) (enumerate_from 0 ids)
 
@@ -63,6 +65,7 @@ unfoldable pub items_held : List WeightSet → Bucket → List ItemPart
 items_held sets b =
     if length (weighing_of sets b b.items) == 0 then least b.items else weighing_of sets b b.items
 
+-- a bucket of the cluster as one of the map
 unfoldable pub imported_bucket : List WeightSet → Bucket → BucketPart
 imported_bucket sets b = record {
   id = b.id;
@@ -71,9 +74,11 @@ imported_bucket sets b = record {
   items = items_held sets b;
 }
 
+-- the bucket of a slot, where it holds one
 abbrev pub slot_part : List WeightSet → Slot Bucket → Option BucketPart
 slot_part sets s = option_map (imported_bucket sets) s.holds
 
+-- the buckets of all slots
 abbrev pub slot_parts : List WeightSet → List (Slot Bucket) → List BucketPart
 slot_parts sets slots = filter_map (slot_part sets) slots
 

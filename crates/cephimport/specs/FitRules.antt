@@ -16,18 +16,22 @@ use Rattle.cephimport.specs.Uses.{any_has_rule, is_used}
 use Rattle.cephimport.specs.Steps.{chooses}
 use Rattle.cephimport.specs.Rules.{size_of}
 
+-- a step of this word is known
 abbrev pub is_known_word : StepWord → Bool
 is_known_word words.Nothing = false
 is_known_word words.SetChooseLocalTries = false
 is_known_word words.SetChooseLocalFallbackTries = false
 is_known_word _ = true
 
+-- all steps of a rule are of words that are known
 abbrev pub has_known_words : List Step → Bool
 has_known_words steps = list_all (λ s. is_known_word s.word) steps
 
+-- a step of a rule chooses by the size of its pool: its count is negative
 abbrev pub has_negative : List Step → Bool
 has_negative steps = list_any (λ s. chooses s.word && int_lt s.first (pos 0)) steps
 
+-- a rule has no more steps than a map allows
 abbrev pub has_few_steps : List Step → Bool
 has_few_steps steps = nat_le (length steps) max_steps
 
@@ -47,10 +51,12 @@ passes Words pools id r = has_known_words r.steps
 passes Length pools id r = has_few_steps r.steps
 passes Counts pools id r = has_counts pools id r.steps
 
+-- the rule of a slot is used and fails a test
 unfoldable pub rule_slot_fails : RuleTest → List Pool → ℕ → Slot Rule → Bool
 rule_slot_fails test pools id slot =
     option_map_or (λ r. is_used pools id && not (passes test pools id r)) slot.holds false
 
+-- the rule of some slot is used and fails a test
 abbrev pub rule_fails_in : RuleTest → List Pool → List (Slot Rule) → Bool
 rule_fails_in test pools rules = list_any (λ p. rule_slot_fails test pools p.0 p.1) (enumerate_from 0 rules)
 

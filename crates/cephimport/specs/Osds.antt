@@ -9,6 +9,7 @@ use Rattle.mapparts.specs.declared.parts.OsdPart.{OsdPart}
 abbrev pub is_there : ℕ → Bool
 is_there state = state % 2 == 1
 
+-- the bit of an OSD that is up
 abbrev pub is_up : ℕ → Bool
 is_up state = state / 2 % 2 == 1
 
@@ -27,6 +28,7 @@ imported_osd osds id state =
       weight = pos (kept_reweight osds id);
     })
 
+-- the OSDs of the map, by their numbers
 unfoldable pub imported_osds : Osds → List OsdPart
 imported_osds osds = filter_map (λ s. imported_osd osds s.0 s.1) (enumerate_from 0 osds.states)
 

@@ -7,10 +7,12 @@ use Rattle.cephmap.specs.declared.pool.PoolKind.{PoolKind}
 use Rattle.cephmap.specs.declared.pool.PoolKind.TheVariants.{Replicated, Erasure}
 use Rattle.mapparts.specs.declared.parts.PoolPart.{PoolPart}
 
+-- the kind of rule that a pool of a kind has
 abbrev pub pool_use : PoolKind → RuleKind
 pool_use Replicated = kinds.Replicated
 pool_use Erasure = kinds.Erasure
 
+-- a pool of the cluster as one of the map
 unfoldable pub imported_pool : Pool → PoolPart
 imported_pool p = record {
   id = p.id;

@@ -30,6 +30,7 @@ rule_steps t size steps =
     if length (kept_steps size (idle_ahead size steps) steps) == 0 then []
     else front t steps ++ kept_steps size (idle_ahead size steps) steps
 
+-- a rule of the cluster, which has this id, as one of the map
 unfoldable pub imported_rule : CephMap → ℕ → Rule → RulePart
 imported_rule m id r = record {
   id = pos id;
@@ -37,9 +38,11 @@ imported_rule m id r = record {
   steps = rule_steps m.crush.tunables (size_of m.pools id) r.steps;
 }
 
+-- the rule of a slot, where it holds one that is used
 unfoldable pub slot_rule : CephMap → ℕ → Slot Rule → Option RulePart
 slot_rule m id slot = if is_used m.pools id then option_map (imported_rule m id) slot.holds else None
 
+-- the rules of all slots that are used, each by the number of its slot
 abbrev pub rules_in : CephMap → List (Slot Rule) → List RulePart
 rules_in m slots = filter_map (λ p. slot_rule m p.0 p.1) (enumerate_from 0 slots)
 

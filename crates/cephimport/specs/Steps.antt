@@ -18,10 +18,12 @@ is_setting words.SetChooseLeafVaryR = true
 is_setting words.SetChooseLeafStable = true
 is_setting _ = false
 
+-- a step of this word emits
 abbrev pub emits : StepWord → Bool
 emits words.Emit = true
 emits _ = false
 
+-- a step of this word chooses
 abbrev pub chooses : StepWord → Bool
 chooses words.ChooseFirstN = true
 chooses words.ChooseIndep = true
@@ -33,6 +35,7 @@ chooses _ = false
 unfoldable pub count_for : ℕ → ℤ → ℤ
 count_for size count = if int_lt count (pos 0) then count +ℤ pos size else count
 
+-- a step that chooses for a pool of a size: by a mode, items of a type or leaves below them
 unfoldable pub choose_part : Mode → Bool → ℕ → Step → StepPart
 choose_part mode to_leaf size s =
     Choose (record { mode = mode; to_leaf = to_leaf; count = count_for size s.first; level = s.second })
@@ -54,6 +57,7 @@ part_of_word words.ChooseLeafFirstN size s = choose_part Firstn (not (int_eq s.s
 part_of_word words.ChooseLeafIndep size s = choose_part Indep true size s
 part_of_word _ size s = other_step s.word s.first
 
+-- a step of the cluster, for a pool of a size, as one of the map
 unfoldable pub imported_step : ℕ → Step → StepPart
 imported_step size s = part_of_word s.word size s
 
@@ -80,6 +84,7 @@ lives size idle (s ∷ rest) =
 unfoldable pub keeps : ℕ → Bool → Step → List Step → Bool
 keeps size idle s rest = if is_setting s.word then lives size idle rest else not idle
 
+-- the steps that stay from one on, where it is told whether its block gives nothing
 unfoldable pub kept_steps : ℕ → Bool → List Step → List StepPart
 kept_steps size idle [] = []
 kept_steps size idle (s ∷ rest) =

@@ -14,6 +14,7 @@ use Rattle.cephimport.specs.declared.tuned.Tuned.{Tuned}
 use Rattle.cephimport.specs.declared.tuned.Tuned.TheVariants.{Tries, VaryR, Stable}
 use Rattle.cephimport.specs.Uses.{is_take}
 
+-- a tunable of the cluster
 abbrev pub own : Tuned → Tunables → ℕ
 own Tries t = t.choose_total_tries
 own VaryR t = t.chooseleaf_vary_r
@@ -25,18 +26,22 @@ usual Tries = 50
 usual VaryR = 1
 usual Stable = 1
 
+-- a step of this word sets the tries of choices
 abbrev pub sets_choose_tries : StepWord → Bool
 sets_choose_tries words.SetChooseTries = true
 sets_choose_tries _ = false
 
+-- a step of this word sets `chooseleaf_vary_r`
 abbrev pub sets_vary_r : StepWord → Bool
 sets_vary_r words.SetChooseLeafVaryR = true
 sets_vary_r _ = false
 
+-- a step of this word sets `chooseleaf_stable`
 abbrev pub sets_stable : StepWord → Bool
 sets_stable words.SetChooseLeafStable = true
 sets_stable _ = false
 
+-- a step of this word sets a tunable
 abbrev pub sets : Tuned → StepWord → Bool
 sets Tries word = sets_choose_tries word
 sets VaryR word = sets_vary_r word
@@ -48,10 +53,12 @@ set_by Tries n = SetChooseTries (pos (n + 1))
 set_by VaryR n = SetChooseleafVaryR (pos n)
 set_by Stable n = SetChooseleafStable (pos n)
 
+-- a step of this word chooses leaves, first n
 abbrev pub is_leaf_word : StepWord → Bool
 is_leaf_word words.ChooseLeafFirstN = true
 is_leaf_word _ = false
 
+-- a step chooses leaves, first n
 abbrev pub is_leaf_choice : Step → Bool
 is_leaf_choice s = is_leaf_word s.word
 
@@ -66,11 +73,13 @@ unfoldable pub sets_first : Tuned → List Step → Bool
 sets_first tuned [] = false
 sets_first tuned (s ∷ rest) = not (is_take s.word) && (sets tuned s.word || sets_first tuned rest)
 
+-- the step that sets a tunable at the front of a rule, where that is not jewel's and the rule goes by it
 unfoldable pub front_step : Tuned → Tunables → List Step → Option StepPart
 front_step tuned t steps =
     if own tuned t == usual tuned || sets_first tuned steps || not (looks tuned steps) then None
     else Some (set_by tuned (own tuned t))
 
+-- the steps that set tunables at the front of a rule
 unfoldable pub front : Tunables → List Step → List StepPart
 front t steps =
     option_to_list (front_step Tries t steps) ++ option_to_list (front_step VaryR t steps)

@@ -32,6 +32,7 @@ use Rattle.cephimport.specs.WeightSets.{is_compat}
 
 -- ---- what keeps a map out
 
+-- a pool is there
 abbrev pub pool_is_there : List Pool → ℤ → Bool
 pool_is_there pools id = list_any (λ p. int_eq p.id id) pools
 
@@ -39,9 +40,11 @@ pool_is_there pools id = list_any (λ p. int_eq p.id id) pools
 unfoldable pub is_pool_set : List Pool → WeightSet → Bool
 is_pool_set pools s = not (is_compat s) && (not (has_pools pools) || pool_is_there pools s.pool)
 
+-- some weight set is of a pool alone
 abbrev pub has_pool_set : List Pool → List WeightSet → Bool
 has_pool_set pools sets = list_any (is_pool_set pools) sets
 
+-- what keeps a map out by its buckets, first of all
 unfoldable pub buckets_why : CephMap → List BucketPart → Option StaysOut
 buckets_why m kept =
     if some_bucket_fails buckets.Kind m.crush kept then Some out.StrawBucket
@@ -51,6 +54,7 @@ buckets_why m kept =
     else if any_unknown m kept then Some out.UnknownOsd
     else None
 
+-- what keeps it out by its rules, first of all
 unfoldable pub rules_why : CephMap → Option StaysOut
 rules_why m =
     if some_rule_fails rules.Kind m then Some out.RuleKind
@@ -59,6 +63,7 @@ rules_why m =
     else if some_rule_fails rules.Counts m then Some out.RuleCount
     else None
 
+-- what else keeps it out, first of all
 unfoldable pub others_why : CephMap → Option StaysOut
 others_why m =
     if not (are_settable m.crush.tunables) then Some out.Tunable
@@ -67,6 +72,7 @@ others_why m =
     else if leads_nowhere m then Some out.ExceptionOsd
     else None
 
+-- the first of two reasons
 abbrev pub first_why : Option StaysOut → Option StaysOut → Option StaysOut
 first_why (Some why) later = Some why
 first_why None later = later
@@ -77,6 +83,7 @@ why m kept = first_why (buckets_why m kept) (first_why (rules_why m) (others_why
 
 -- ---- its parts
 
+-- a step sets tries, or how leaves are sought
 abbrev pub sets_anything : StepPart → Bool
 sets_anything (SetChooseTries _) = true
 sets_anything (SetChooseleafTries _) = true
@@ -86,9 +93,11 @@ sets_anything (Take _) = false
 sets_anything (Choose _) = false
 sets_anything Emit = false
 
+-- a step of a rule sets anything
 abbrev pub rule_sets : RulePart → Bool
 rule_sets r = list_any sets_anything r.steps
 
+-- a step of some rule sets anything
 abbrev pub any_sets : List RulePart → Bool
 any_sets rules = list_any rule_sets rules
 
@@ -123,10 +132,12 @@ unfoldable pub within_limits : MapParts → Result MapParts StaysOut
 within_limits p =
     if parts_fit_in (limits_of (profile_of p.buckets p.rules)) p then Ok p else Err out.Limit
 
+-- a reason, or else these parts
 abbrev pub unless_why : Option StaysOut → Result MapParts StaysOut → Result MapParts StaysOut
 unless_why (Some why) parts = Err why
 unless_why None parts = parts
 
+-- the parts of a cluster's own map with these buckets in use, or why it stays out
 abbrev pub import_with : CephMap → List BucketPart → Result MapParts StaysOut
 import_with m kept = unless_why (why m kept) (within_limits (imported_parts m kept))
 

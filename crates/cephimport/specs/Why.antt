@@ -5,10 +5,12 @@ use Rattle.cephimport.specs.declared.why.StaysOut.TheVariants as out
 use Rattle.cephimport.specs.declared.why.ImportError.{ImportError}
 use Rattle.cephimport.specs.declared.why.ImportError.TheVariants as errors
 
+-- what ended an import is what it gives, or memory ran out
 abbrev pub EndsImport : {X : Type 0} → ImportError → Result X StaysOut → Type 0
 EndsImport errors.Memory wanted = Unit {0}
 EndsImport (errors.StaysOut why) wanted = wanted ≡ Err why
 
+-- a function returned what an import gives, unless memory ran out
 abbrev pub ImportGives : {X : Type 0} → Result X ImportError → Result X StaysOut → Type 0
 ImportGives (Ok x) wanted = wanted ≡ Ok x
 ImportGives (Err e) wanted = EndsImport e wanted

@@ -20,13 +20,16 @@ leaves_more a b c one = record { front = one.front ++ b; is = one.is ∙ sym (ap
 equal : (m n : ℕ) → (m == n) ≡ true → m ≡ n
 equal m n h = grind (arith, h)
 
+-- a test, with the refusal of what does not pass it
 abbrev passes_or : Refused → Bool → Result (Unit {0}) Refused
 passes_or e t = if t then Ok tt else Err e
 
+-- what is not refused has passed its test
 passed : (e : Refused) (t : Bool) → passes_or e t ≡ Ok tt → t ≡ true
 passed e true h = refl
 passed e false h = absurd cc
 
+-- a sum that is not refused is that of the bytes
 is_right : (stands sum : ℕ) → is_sum stands sum ≡ Ok tt → stands ≡ sum
 is_right stands sum h = equal stands sum (passed WrongSum (stands == sum) h)
 
@@ -83,22 +86,28 @@ empty_is : (bytes : List ℕ) → length bytes ≡ 0 → bytes ≡ []
 empty_is [] h = refl
 empty_is (b ∷ bytes) h = absurd (omega (arith, h))
 
+-- where bytes are found to be at their end, there are none
 none_left : (bytes : List ℕ) → at_end bytes ≡ Ok tt → bytes ≡ []
 none_left bytes h = empty_is bytes (equal (length bytes) 0 (passed Trailing (length bytes == 0) h))
 
+-- where a map comes out, the map was read and some bytes were left
 read_first : (r : Result (CephMap × List ℕ) Refused) (map : CephMap) → first_of r ≡ Ok map → (p : CephMap × List ℕ) × (r ≡ Ok p)
 read_first (Ok p) map h = (p, refl)
 read_first (Err e) map h = absurd cc
 
+-- the map in the section of clients
 abbrev client_of : Own → Front CephMap
 client_of client = inside (client_map client.version) client.own
 
+-- the map in the bytes of the whole section: its section of clients is looked at first
 abbrev inner_of : List ℕ → Own → Front CephMap
 inner_of bytes outer = inside (client_section bytes) outer.own >>= client_of
 
+-- the same, where nothing stands behind the whole section
 abbrev ended_of : List ℕ → Own → Front CephMap
 ended_of bytes outer = ended >>= λ _. inner_of bytes outer
 
+-- the bytes of a map that is taken have their sum
 pub has_its_sum : (bytes : List ℕ) (map : CephMap) → osd_map bytes ≡ Ok map → HasItsSum bytes
 unfolding whole_map
 has_its_sum bytes map h =

@@ -5,11 +5,13 @@ use Rattle.cephbytes.specs.Encoding.{Front, ◌>>=◌, gives, number, skip, sect
 use Rattle.cephmap.specs.declared.address.Address.{Address}
 use Rattle.cephmap.specs.declared.address.Addresses.{Addresses}
 
+-- an address in a section, of which nothing is read
 abbrev pub address_section : Front (Unit {0})
 address_section = do
   _ ← section 255
   gives tt
 
+-- an address of a form that is not known
 abbrev pub no_address : Front (Unit {0})
 no_address bs = Err Unknown
 
@@ -17,12 +19,14 @@ no_address bs = Err Unknown
 unfoldable pub address_of : ℕ → Front (Unit {0})
 address_of kind = if kind == 0 then skip 135 else (if kind == 1 then address_section else no_address)
 
+-- an address: the number of its form, and what is behind that
 unfoldable pub address : Front Address
 address = do
   kind ← number 1
   _ ← address_of kind
   gives (record { kind = kind })
 
+-- a list of addresses
 abbrev pub several : Front (Unit {0})
 several = do
   all ← listed 1 address
@@ -32,6 +36,7 @@ several = do
 unfoldable pub addresses_of : ℕ → Front (Unit {0})
 addresses_of kind = if kind == 2 then several else address_of kind
 
+-- the addresses of an OSD: the number of their form, and what is behind that
 unfoldable pub addresses : Front Addresses
 addresses = do
   kind ← number 1

@@ -16,11 +16,13 @@ weighed = do
   made ← number 4
   gives (record { weight = weight; made = made })
 
+-- the one weight of all items of a uniform bucket
 abbrev pub uniform_weight : Front Weights
 uniform_weight = do
   weight ← number 4
   gives (weights.Uniform weight)
 
+-- of each item of a list bucket its weight, and the sum of those up to it
 abbrev pub list_weights : ℕ → Front Weights
 list_weights size = do
   all ← many 8 weighed size
@@ -33,16 +35,19 @@ tree_weights = do
   all ← many 4 (number 4) nodes
   gives (weights.Tree all)
 
+-- of each item of a straw bucket its weight and its straw
 abbrev pub straw_weights : ℕ → Front Weights
 straw_weights size = do
   all ← many 8 weighed size
   gives (weights.Straw all)
 
+-- the weight of each item of a straw2 bucket
 abbrev pub straw2_weights : ℕ → Front Weights
 straw2_weights size = do
   all ← many 4 (number 4) size
   gives (weights.Straw2 all)
 
+-- the weights of a kind that is not known
 abbrev pub no_weights : Front Weights
 no_weights bs = Err Unknown
 
@@ -56,6 +61,7 @@ weights_of kind size =
     else (if kind == 5 then straw2_weights size
     else no_weights))))
 
+-- a bucket: its head, its items, and the weights by its kind
 unfoldable pub bucket : Front Bucket
 bucket = do
   id ← signed w32
@@ -74,6 +80,7 @@ held one n = if n == 0 then gives (record { holds = None }) else (do
   x ← one
   gives (record { holds = Some x }))
 
+-- a place: its number, and what stands in it
 unfoldable pub slot : {X : Type 0} → Front X → Front (Slot X)
 slot one = do
   n ← number 4

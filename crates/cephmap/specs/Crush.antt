@@ -25,6 +25,7 @@ names = do
   rules ← listed 8 name
   gives (record { types = types; items = items; rules = rules })
 
+-- the tunables, one after the other
 unfoldable pub tunables : Front Tunables
 tunables = do
   choose_local_tries ← number 4
@@ -46,18 +47,21 @@ tunables = do
     chooseleaf_stable = chooseleaf_stable;
   })
 
+-- the class of a device
 unfoldable pub device_class : Front DeviceClass
 device_class = do
   device ← signed w32
   class ← signed w32
   gives (record { device = device; class = class })
 
+-- a shadow: its class, and the bucket that stands for another where that class is wanted
 unfoldable pub shadow : Front Shadow
 shadow = do
   class ← signed w32
   bucket ← signed w32
   gives (record { class = class; bucket = bucket })
 
+-- the shadows of a bucket
 unfoldable pub shadow_trees : Front ShadowTrees
 shadow_trees = do
   bucket ← signed w32
@@ -72,6 +76,7 @@ classes = do
   shadows ← listed 8 shadow_trees
   gives (record { devices = devices; names = names; shadows = shadows })
 
+-- what a weight set has for a bucket: its place, rows of weights, and other ids
 unfoldable pub bucket_weights : Front BucketWeights
 bucket_weights = do
   place ← number 4
@@ -79,6 +84,7 @@ bucket_weights = do
   ids ← listed 4 (signed w32)
   gives (record { place = place; weights = weights; ids = ids })
 
+-- a weight set of a pool, or the compat weight set: what it has for each bucket
 unfoldable pub weight_set : Front WeightSet
 weight_set = do
   pool ← signed w64

@@ -17,24 +17,28 @@ group = do
   _ ← skip 4
   gives (record { pool = pool; number = number })
 
+-- a group and its OSDs
 unfoldable pub group_osds : Front GroupOsds
 group_osds = do
   group ← group
   osds ← listed 4 (signed w32)
   gives (record { group = group; osds = osds })
 
+-- a group and its primary
 unfoldable pub group_primary : Front GroupPrimary
 group_primary = do
   group ← group
   osd ← signed w32
   gives (record { group = group; osd = osd })
 
+-- a pair of two OSDs
 unfoldable pub pair : Front Pair
 pair = do
   from ← signed w32
   to ← signed w32
   gives (record { from = from; to = to })
 
+-- a group and its pairs
 unfoldable pub group_pairs : Front GroupPairs
 group_pairs = do
   group ← group

@@ -40,6 +40,7 @@ osds = do
   own ← listed 1 addresses
   gives (record { max_osd = max_osd; states = states; reweights = reweights })
 
+-- the sets and the primaries that hold for a time
 unfoldable pub temporary : Front Temporary
 temporary = do
   sets ← listed 21 group_osds
@@ -52,6 +53,7 @@ boxed_crush = do
   own ← text
   inside crush own
 
+-- the snapshots of a pool that were removed
 unfoldable pub removed_snapshots : Front RemovedSnapshots
 removed_snapshots = do
   pool ← signed w64
@@ -70,6 +72,7 @@ lately = do
 unfoldable pub upmap_primaries : ℕ → Front (List GroupPrimary)
 upmap_primaries version = if nat_lt version 10 then gives [] else listed 21 group_primary
 
+-- the exceptions of a map of a version: sets, pairs and primaries
 unfoldable pub upmaps : ℕ → Front Upmaps
 upmaps version = do
   sets ← listed 21 group_osds
@@ -108,6 +111,7 @@ client_map version = do
 abbrev pub sum_over : List ℕ → List ℕ → ℕ
 sum_over bytes after = crc32c_of (crc32c_of 4294967295 (take (length bytes - (length after + 4)) bytes)) after
 
+-- nothing where the sum that stands is that of the bytes, else the fault
 abbrev pub is_sum : ℕ → ℕ → Result (Unit {0}) Refused
 is_sum stands sum = if stands == sum then Ok tt else Err WrongSum
 
@@ -125,6 +129,7 @@ client_section bytes = do
   _ ← own_sum bytes
   gives client
 
+-- the whole section of a map and all that stands in it, for the sum over these bytes
 unfoldable pub whole_map : List ℕ → Front CephMap
 whole_map bytes = do
   outer ← section 8
@@ -133,6 +138,7 @@ whole_map bytes = do
   client ← inside (client_section bytes) outer.own
   inside (client_map client.version) client.own
 
+-- what was read, without the bytes behind it
 abbrev pub first_of : {X : Type 0} → Result (X × List ℕ) Refused → Result X Refused
 first_of (Ok p) = Ok p.0
 first_of (Err e) = Err e

@@ -21,6 +21,7 @@ name = do
   name ← text
   gives (record { id = id; name = name })
 
+-- a setting: its key and its value
 unfoldable pub setting : Front Setting
 setting = do
   key ← text

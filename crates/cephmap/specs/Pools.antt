@@ -13,9 +13,11 @@ use Rattle.cephmap.specs.declared.pool.Fields.{Fields}
 use Rattle.cephmap.specs.declared.pool.Pool.{Pool}
 use Rattle.cephmap.specs.declared.pool.PoolName.{PoolName}
 
+-- the kind of a pool by its number
 abbrev pub pool_kind_of : ℕ → Result PoolKind Refused
 pool_kind_of n = if n == 1 then Ok Replicated else (if n == 3 then Ok Erasure else Err Unknown)
 
+-- the kind of a pool
 unfoldable pub pool_kind : Front PoolKind
 pool_kind = do
   n ← number 1
@@ -95,6 +97,7 @@ fields version = do
     target = target;
   })
 
+-- a pool: its id and the section of its fields
 unfoldable pub pool : Front Pool
 pool = do
   id ← signed w64
@@ -115,6 +118,7 @@ pool = do
     erasure_code_profile = fields.erasure_code_profile;
   })
 
+-- the name of a pool
 unfoldable pub pool_name : Front PoolName
 pool_name = do
   pool ← signed w64

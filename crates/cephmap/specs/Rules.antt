@@ -9,6 +9,7 @@ use Rattle.cephmap.specs.declared.rule.StepWord.TheVariants as words
 use Rattle.cephmap.specs.declared.rule.Step.{Step}
 use Rattle.cephmap.specs.declared.rule.Rule.{Rule}
 
+-- the word of a number below 8: steps that take, choose and emit
 abbrev pub choose_word_of : ℕ → Result StepWord Refused
 choose_word_of n =
     if n == 0 then Ok words.Nothing
@@ -20,6 +21,7 @@ choose_word_of n =
     else (if n == 7 then Ok words.ChooseLeafIndep
     else Err Unknown))))))
 
+-- the word of a number from 8 on: steps that set
 abbrev pub set_word_of : ℕ → Result StepWord Refused
 set_word_of n =
     if n == 8 then Ok words.SetChooseTries
@@ -34,6 +36,7 @@ set_word_of n =
 abbrev pub step_word_of : ℕ → Result StepWord Refused
 step_word_of n = if nat_lt n 8 then choose_word_of n else set_word_of n
 
+-- a step: its word and two arguments
 unfoldable pub step : Front Step
 step = do
   n ← number 4
@@ -42,6 +45,7 @@ step = do
   second ← signed w32
   gives (record { word = word; first = first; second = second })
 
+-- a rule: how many steps it has, its mask, and its steps
 unfoldable pub rule : Front Rule
 rule = do
   size ← number 4

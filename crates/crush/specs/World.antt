@@ -11,6 +11,7 @@ pub record World : Type 0 where
   pub weights : List ℕ
   pub x : ℕ
 
+-- the world of these
 abbrev pub world_of : List Bucket → List ℕ → ℕ → World
 world_of buckets weights x = record { buckets = buckets; weights = weights; x = x }
 

@@ -33,6 +33,7 @@ pub record IsWritten (s : State) (t : Texts) : Type 0 where
 abbrev pub IsRunning : State → Type 0
 IsRunning s = HasCleanDisk s → IsTrue s.is_open
 
+-- a state that is open shows these texts, as long as the disk has returned what was written
 abbrev pub IsOf : State → Texts → Type 0
 IsOf s t = HasCleanDisk s → IsTrue s.is_open → Shows s t
 
@@ -67,11 +68,14 @@ module _ {S : Type 0} (g : Ghosts S) where
   abbrev pub Holds : TextStore S → Texts → Type 0
   Holds store = HoldsIn store.conn
 
+  -- whatever a crash at this moment leaves of a store is of this kind
   abbrev pub Leaves : TextStore S → (Trees → Type 0) → Type 0
   Leaves store = LeavesIn store.conn
 
+  -- a crash at this moment may leave these texts of a store
   abbrev pub MayLeave : TextStore S → Texts → Type 0
   MayLeave store = MayLeaveIn store.conn
 
+  -- a store holds these texts, unless a failure of the disk has shut it
   abbrev pub Keeps : TextStore S → Texts → Type 0
   Keeps store = KeepsIn store.conn

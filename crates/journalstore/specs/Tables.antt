@@ -25,6 +25,7 @@ pub data Form : Type 0 where
   bare : Form
   noted : Form
 
+-- a file of this form has what it notes of itself
 abbrev pub is_noted : Form → Bool
 is_noted bare = false
 is_noted noted = true
@@ -50,9 +51,11 @@ table_of name tree columns = record {
 abbrev pub key_column : List ℕ → Column
 key_column name = column_of name Integer false
 
+-- a column of whole numbers, none of which is missing
 abbrev pub number_column : List ℕ → Column
 number_column name = column_of name Integer true
 
+-- a column of texts, none of which is missing
 abbrev pub text_column : List ℕ → Column
 text_column name = column_of name Text true
 
@@ -109,9 +112,11 @@ about_text = codes "SELECT life, keep FROM store"
 abbrev pub delete_text : List ℕ
 delete_text = codes "DELETE FROM journal WHERE epoch <= ?1"
 
+-- the statement that deletes the first map
 abbrev pub clear_text : List ℕ
 clear_text = codes "DELETE FROM map"
 
+-- the statement that inserts the new first map
 abbrev pub map_insert_text : List ℕ
 map_insert_text = codes "INSERT INTO map (epoch, text) VALUES (?1, ?2)"
 

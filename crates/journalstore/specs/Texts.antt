@@ -72,5 +72,6 @@ pub record StandsFor (db : Trees) (t : Texts) : Type 0 where
 abbrev pub entry_shown : Row → Entry
 entry_shown row = entry_in (column row 0) (column row 1)
 
+-- the row shows an entry: a whole number and a text
 abbrev pub IsEntryShown : Row → Type 0
 IsEntryShown row = IsEntryIn (column row 0) (column row 1)

@@ -9,6 +9,7 @@ use Rattle.serde_json.specs.Read.{read}
 use Rattle.refusal.specs.declared.refused.Refusal.{Refusal}
 use Rattle.refusal.specs.declared.refused.Refusal.TheVariants.{BadJson, BadField, Memory as OutOfMemory}
 
+-- what is made of a value, where there is one
 infixl 10 ◌>>=◌
 abbrev pub ◌>>=◌ : {A B : Type 0} → Option A → (A → Option B) → Option B
 o >>= f = option_and_then f o

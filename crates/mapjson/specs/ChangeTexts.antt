@@ -40,9 +40,11 @@ reweight_within w = record { osd = nat_abs w.osd; weight = nat_abs w.weight }
 abbrev pub pools_within : PoolChanges ℤ PoolPart GrowPart → PoolChanges ℕ PoolFacts Growth
 pools_within c = record { gone = map nat_abs c.gone; come = map pool_of c.come; grow = map within_growth c.grow }
 
+-- what a change that is within the limits does with OSDs
 abbrev pub osds_within : OsdChanges ℤ → OsdChanges ℕ
 osds_within c = record { down = map nat_abs c.down; up = map nat_abs c.up }
 
+-- what it does with exceptions of one kind
 abbrev pub exceptions_within : {P E : Type 0} → (P → E) → ExceptionChanges PgParts (ExceptionPart P)
     → ExceptionChanges Pg (Exception E)
 exceptions_within entry c = record { gone = map pg_of c.gone; come = map (exception_of entry) c.come }

@@ -15,9 +15,11 @@ use Rattle.mapparts.specs.declared.change.RawChange.{RawChange}
 use Rattle.mapparts.specs.declared.change.ReweightPart.{ReweightPart}
 use Rattle.osdmap.specs.PartsOf.{bucket_part, rule_part, pool_part, pg_part, pair_part, exception_part}
 
+-- the part that states how a pool grows
 abbrev pub growth_part : Growth → GrowPart
 growth_part g = record { pool = pos g.pool; pg_num = pos g.pg_num; pgp_num = pos g.pgp_num }
 
+-- the part that states the new reweight of an OSD
 abbrev pub reweight_part : Reweight → ReweightPart
 reweight_part w = record { osd = pos w.osd; weight = pos w.weight }
 

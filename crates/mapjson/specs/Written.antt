@@ -30,6 +30,7 @@ use Rattle.osdmap.specs.PartsOf.{parts_of}
 
 -- ---- values
 
+-- a whole number
 abbrev pub number_data : ℤ → Data
 number_data z = number (of_integer z)
 
@@ -63,6 +64,7 @@ kind_word Straw2 = codes "straw2"
 abbrev pub item_data : ItemPart → Data
 item_data i = list_data number_data (i.id ∷ i.weight ∷ [])
 
+-- a bucket, its keys in order
 unfoldable pub bucket_data : BucketPart → Data
 bucket_data b = object_of (
     (codes "id", number_data b.id)
@@ -95,6 +97,7 @@ step_data (Take id) = list_of (string (codes "take") ∷ number_data id ∷ [])
 step_data (Choose c) = list_of (string (choose_word c.mode c.to_leaf) ∷ number_data c.count ∷ number_data c.level ∷ [])
 step_data Emit = list_of (string (codes "emit") ∷ [])
 
+-- a rule, its keys in order
 unfoldable pub rule_data : RulePart → Data
 rule_data r = object_of (
     (codes "id", number_data r.id)
@@ -104,6 +107,7 @@ rule_data r = object_of (
 
 -- ---- pools and OSDs
 
+-- a pool, its keys in order
 unfoldable pub pool_data : PoolPart → Data
 pool_data p = object_of (
     (codes "id", number_data p.id)
@@ -114,6 +118,7 @@ pool_data p = object_of (
     ∷ (codes "size", number_data p.size)
     ∷ [])
 
+-- an OSD, its keys in order
 unfoldable pub osd_data : OsdPart → Data
 osd_data o = object_of (
     (codes "exists", boolean o.exists)
@@ -146,6 +151,7 @@ exception_data entry e = list_of (group_data e.pg ∷ list_data entry e.entries 
 
 -- ---- the map
 
+-- a map, its keys in order
 unfoldable pub map_data : MapParts → Data
 map_data p = object_of (
     (codes "buckets", list_data bucket_data p.buckets)

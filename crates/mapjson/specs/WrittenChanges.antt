@@ -26,6 +26,7 @@ reweight_data w = list_data number_data (w.osd ∷ w.weight ∷ [])
 abbrev pub growth_data : GrowPart → Data
 growth_data g = list_data number_data (g.pool ∷ g.pg_num ∷ g.pgp_num ∷ [])
 
+-- a CRUSH map of a change, its keys in order
 unfoldable pub crush_data : CrushParts → Data
 crush_data k = object_of (
     (codes "buckets", list_data bucket_data k.buckets)
@@ -50,6 +51,7 @@ first_members c =
     ∷ (codes "grow_pool", list_data growth_data c.pools.grow)
     ∷ []
 
+-- the members of a change behind its CRUSH map
 abbrev pub last_members : RawChange → List (List ℕ × Data)
 last_members c =
     (codes "new_items", list_data (exception_data pair_data) c.items.come)
@@ -62,6 +64,7 @@ last_members c =
     ∷ (codes "weight", list_data reweight_data c.weights)
     ∷ []
 
+-- a change, its keys in order
 unfoldable pub change_data : RawChange → Data
 change_data c = object_of (first_members c ++ (crush_member c.crush ++ last_members c))
 

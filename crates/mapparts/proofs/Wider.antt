@@ -165,6 +165,7 @@ sets_wider : (es : List (ExceptionPart ℤ)) → entries_fit_in (exception_fits_
 sets_wider es h =
     entries_wider (exception_fits_in (is_osd_id_in plain) plain) (exception_fits_in (is_osd_id_in stock) stock) (exception_wider (is_osd_id_in plain) (is_osd_id_in stock) osd_wider) es h
 
+-- pairs within the limits of plain clusters are within those of all
 pairs_wider : (es : List (ExceptionPart PairPart)) → entries_fit_in (exception_fits_in (pair_fits_in plain) plain) plain es ≡ true
     → entries_fit_in (exception_fits_in (pair_fits_in stock) stock) stock es ≡ true
 pairs_wider es h =

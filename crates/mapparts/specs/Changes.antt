@@ -34,9 +34,11 @@ abbrev pub pool_changes_fit_in : Limits → PoolChanges ℤ PoolPart GrowPart �
 pool_changes_fit_in l c =
     pool_ids_fit_in l c.gone && entries_fit_in (pool_fits_in l) l c.come && entries_fit_in (growth_fits_in l) l c.grow
 
+-- the lists of OSDs
 abbrev pub osd_changes_fit_in : Limits → OsdChanges ℤ → Bool
 osd_changes_fit_in l c = entries_fit_in (is_osd_id_in l) l c.down && entries_fit_in (is_osd_id_in l) l c.up
 
+-- the lists of exceptions of one kind
 abbrev pub exception_changes_fit_in : {P : Type 0} → (P → Bool) → Limits → ExceptionChanges PgParts (ExceptionPart P)
     → Bool
 exception_changes_fit_in within l c =
@@ -52,21 +54,27 @@ change_fits_in l c =
 
 -- ---- the same by the limits of all clusters
 
+-- the new reweight of an OSD
 abbrev pub reweight_fits : ReweightPart → Bool
 reweight_fits = reweight_fits_in stock
 
+-- a list of a change
 abbrev pub entries_fit : {X : Type 0} → (X → Bool) → List X → Bool
 entries_fit fits xs = entries_fit_in fits stock xs
 
+-- the lists of pools
 abbrev pub pool_changes_fit : PoolChanges ℤ PoolPart GrowPart → Bool
 pool_changes_fit = pool_changes_fit_in stock
 
+-- the lists of OSDs
 abbrev pub osd_changes_fit : OsdChanges ℤ → Bool
 osd_changes_fit = osd_changes_fit_in stock
 
+-- the lists of exceptions of one kind
 abbrev pub exception_changes_fit : {P : Type 0} → (P → Bool) → ExceptionChanges PgParts (ExceptionPart P) → Bool
 exception_changes_fit fits c = exception_changes_fit_in fits stock c
 
+-- every number and every length of the change
 abbrev pub change_fits : RawChange → Bool
 change_fits = change_fits_in stock
 

@@ -26,6 +26,7 @@ max_item_weight = nat_abs limits.MAX_ITEM_WEIGHT
 abbrev pub max_rules : ℕ
 max_rules = limits.MAX_RULES
 
+-- the greatest id of a rule
 abbrev pub max_rule_id : ℕ
 max_rule_id = nat_abs limits.MAX_RULE_ID
 
@@ -33,9 +34,11 @@ max_rule_id = nat_abs limits.MAX_RULE_ID
 abbrev pub max_pools : ℕ
 max_pools = limits.MAX_POOLS
 
+-- the greatest id of a pool
 abbrev pub max_pool_id : ℕ
 max_pool_id = nat_abs limits.MAX_POOL_ID
 
+-- how many groups a pool has at most
 abbrev pub max_groups : ℕ
 max_groups = nat_abs limits.MAX_GROUPS
 
@@ -59,12 +62,15 @@ max_stated_reweight = nat_abs limits.MAX_STATED_REWEIGHT
 abbrev pub plain_groups : ℕ
 plain_groups = nat_abs limits.PLAIN_GROUPS
 
+-- how many items a bucket of a plain cluster has at most
 abbrev pub plain_items : ℕ
 plain_items = limits.PLAIN_ITEMS
 
+-- how many rules a plain cluster has at most
 abbrev pub plain_rules : ℕ
 plain_rules = limits.PLAIN_RULES
 
+-- how many pools a plain cluster has at most
 abbrev pub plain_pools : ℕ
 plain_pools = limits.PLAIN_POOLS
 

@@ -40,6 +40,7 @@ has_between low high xs = nat_le low (length xs) && nat_le (length xs) high
 unfoldable pub is_osd_id_in : Limits → ℤ → Bool
 is_osd_id_in l z = is_between (pos 0) l.osd z
 
+-- an item of a bucket and its weight
 unfoldable pub item_fits_in : Limits → ItemPart → Bool
 item_fits_in l i = is_between lowest_bucket l.osd i.id && is_between (pos 1) (pos max_item_weight) i.weight
 
@@ -49,6 +50,7 @@ bucket_fits_in l b =
     is_bucket_id b.id && is_between (pos 1) (pos max_level) b.level && has_between 1 (most_items b.kind) b.items
     && has_between 0 l.items b.items && list_all (item_fits_in l) b.items
 
+-- a step of a rule
 unfoldable pub step_fits_in : Limits → StepPart → Bool
 step_fits_in l (SetChooseTries tries) = is_between (pos 1) (pos max_tries) tries
 step_fits_in l (SetChooseleafTries tries) = is_between (pos 1) (pos max_tries) tries
@@ -58,6 +60,7 @@ step_fits_in l (Take id) = is_bucket_id id
 step_fits_in l (Chooses c) = is_between (pos 0) l.count c.count && is_between (pos 0) (pos max_level) c.level
 step_fits_in l Emit = true
 
+-- a rule and its steps
 unfoldable pub rule_fits_in : Limits → RulePart → Bool
 rule_fits_in l r =
     is_between (pos 0) (pos max_rule_id) r.id && has_between 1 max_steps r.steps && list_all (step_fits_in l) r.steps
@@ -66,6 +69,7 @@ rule_fits_in l r =
 abbrev pub groups_fit_in : Limits → ℤ → ℤ → Bool
 groups_fit_in l pg_num pgp_num = is_between (pos 1) l.groups pg_num && is_between (pos 1) l.groups pgp_num
 
+-- a pool
 unfoldable pub pool_fits_in : Limits → PoolPart → Bool
 pool_fits_in l p =
     is_between (pos 1) (pos max_pool_id) p.id && groups_fit_in l p.pg_num p.pgp_num
@@ -83,6 +87,7 @@ pg_fits g = option_map_or (λ pool. nat_le 1 pool && nat_le pool max_pool_id) g.
 abbrev pub pg_fits_in : Limits → PgParts → Bool
 pg_fits_in l g = pg_fits g
 
+-- a pair of two OSDs
 unfoldable pub pair_fits_in : Limits → PairPart → Bool
 pair_fits_in l p = is_osd_id_in l p.from && is_osd_id_in l p.to
 
@@ -129,48 +134,63 @@ parts_fit_in l p =
 
 -- ---- the same by the limits of all clusters
 
+-- the id of an OSD
 abbrev pub is_osd_id : ℤ → Bool
 is_osd_id = is_osd_id_in stock
 
+-- an item of a bucket and its weight
 abbrev pub item_fits : ItemPart → Bool
 item_fits = item_fits_in stock
 
+-- a bucket and its items
 abbrev pub bucket_fits : BucketPart → Bool
 bucket_fits = bucket_fits_in stock
 
+-- a step of a rule
 abbrev pub step_fits : StepPart → Bool
 step_fits = step_fits_in stock
 
+-- a rule and its steps
 abbrev pub rule_fits : RulePart → Bool
 rule_fits = rule_fits_in stock
 
+-- a pool
 abbrev pub pool_fits : PoolPart → Bool
 pool_fits = pool_fits_in stock
 
+-- an OSD that is listed
 abbrev pub osd_fits : OsdPart → Bool
 osd_fits = osd_fits_in stock
 
+-- a pair of two OSDs
 abbrev pub pair_fits : PairPart → Bool
 pair_fits = pair_fits_in stock
 
+-- an exception of one kind
 abbrev pub exception_fits : {P : Type 0} → (P → Bool) → ExceptionPart P → Bool
 exception_fits fits e = exception_fits_in fits stock e
 
+-- the exceptions of one kind
 abbrev pub exceptions_fit : {P : Type 0} → (P → Bool) → List (ExceptionPart P) → Bool
 exceptions_fit fits es = entries_fit_in (exception_fits fits) stock es
 
+-- the numbers that stand alone
 abbrev pub head_fits : MapParts → Bool
 head_fits = head_fits_in stock
 
+-- how many buckets, rules and pools there are
 abbrev pub lists_fit : MapParts → Bool
 lists_fit = lists_fit_in stock
 
+-- the numbers of a growth, each by itself
 abbrev pub growth_fits : GrowPart → Bool
 growth_fits = growth_fits_in stock
 
+-- every number and every length of a CRUSH map
 abbrev pub crush_fits : CrushParts → Bool
 crush_fits = crush_fits_in stock
 
+-- every number and every length of a map
 abbrev pub parts_fit : MapParts → Bool
 parts_fit = parts_fit_in stock
 

@@ -8,6 +8,7 @@ use Rattle.mapstore.specs.Stores.{HoldsJournal, MayLeaveJournal, texts_of}
 use Rattle.mapstore.specs.declared.store.MapStore.{MapStore}
 
 module _ {S : Type 0} (g : Ghosts S) where
+  -- what a crash may leave of a store is the journal that it holds
   pub settled_at : (store : MapStore S) (held left : Journal) → HoldsJournal g store held
       → MayLeaveJournal g store left → left ≡ held
   settled_at store held left holds may =

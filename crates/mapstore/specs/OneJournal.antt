@@ -22,6 +22,7 @@ profile_in : List ℕ → Profile
 profile_in [] = Stock
 profile_in (code ∷ codes) = if code == 112 then Plain else Stock
 
+-- a text that begins with the word of a profile is of that profile
 begins_with : (p : Profile) (xs : List ℕ) → profile_in (word_of p ++ xs) ≡ p
 unfolding profile_in
 begins_with Plain xs = refl
@@ -50,6 +51,7 @@ one_step s t first second e =
     let change = one_change (s.epoch - 1) s.change t.change profile first also same in
     λ i. record { epoch = epoch i; change = change i }
 
+-- two journals that have the same texts behind a store are one
 pub one_journal : {S : Type 0} (store : MapStore S) (j k : Journal) → IsBehind store j → IsBehind store k
     → texts_of store j ≡ texts_of store k → j ≡ k
 one_journal store j k first second e =

@@ -39,10 +39,12 @@ pub record OrdersPools (given ordered : PoolChanges ℕ PoolFacts Growth) : Type
   pub come : SortsBy (λ p. p.id) given.come ordered.come
   pub grow : SortsBy (λ g. g.pool) given.grow ordered.grow
 
+-- each list of OSDs is put in order
 pub record OrdersOsds (given ordered : OsdChanges ℕ) : Type 0 where
   pub down : SortsBy (λ osd. osd) given.down ordered.down
   pub up : SortsBy (λ osd. osd) given.up ordered.up
 
+-- each list of exceptions is put in order by their groups
 pub record OrdersExceptions {E : Type 0} (given ordered : ExceptionChanges Pg (Exception E)) : Type 0 where
   pub gone : SortsBy pg_key given.gone ordered.gone
   pub come : SortsBy key_of given.come ordered.come

@@ -7,6 +7,7 @@ use Rattle.tip.specs.declared.twins.Kept.{Kept}
 use Rattle.monitor.specs.declared.tally.Tally.{Tally}
 use Rattle.monitor.specs.Tallies.{names_of, total_of, IsNewTallyOf}
 
+-- a place that has a name is one of the list
 pub within : (kept : List Kept) (at name : ℕ) → slice_get (names_of kept) at ≡ Some name → at < length kept
 within [] at name e = absurd (cc e)
 within (k ∷ kept) zero name e = omega arith
@@ -24,6 +25,7 @@ names_set [] at k d e = refl
 names_set (x ∷ xs) zero k d e = ap (λ n. n ∷ names_of xs) e
 names_set (x ∷ xs) (suc at) k d e = ap (λ ns. x.name ∷ ns) (names_set xs at k d e)
 
+-- all come to as much more as the one that rises
 pub total_set : (xs : List Kept) (at more : ℕ) (k d : Kept) → at < length xs → k.count ≡ (slice_index_or xs at d).count + more
     → total_of (slice_set xs at k) ≡ total_of xs + more
 total_set xs at more k d h e = omega (arith, e, sum_by-set (λ (q : Kept). q.count) xs at k d h)
@@ -38,24 +40,30 @@ alone (k ∷ l ∷ kept) at name d e one = absurd (omega (arith, one))
 
 -- ---- one more
 
+-- behind the names of all stands the name of one more
 pub names_more : (kept : List Kept) (k : Kept) → names_of (kept ++ k ∷ []) ≡ names_of kept ++ k.name ∷ []
 names_more [] k = refl
 names_more (x ∷ kept) k = ap (λ ns. x.name ∷ ns) (names_more kept k)
 
+-- all come to as much more as one more has
 pub total_more : (kept : List Kept) (k : Kept) → total_of (kept ++ k ∷ []) ≡ total_of kept + k.count
 total_more kept k = omega (arith, sum_by-append (λ (q : Kept). q.count) kept (k ∷ []), sum_by-cons (λ (q : Kept). q.count) k [])
 
+-- where there is none, all come to 0
 pub none_counted : total_of [] ≡ 0
 none_counted = refl
 
+-- with one more there is one name more
 pub length_more : (kept : List Kept) (k : Kept) → length (names_of (kept ++ k ∷ [])) ≡ length (names_of kept) + 1
 length_more kept k = ap length (names_more kept k) ∙ length-append (names_of kept) (k.name ∷ [])
 
+-- a name stands at its place still when another is put behind all
 get_before : (names : List ℕ) (at name other : ℕ) → slice_get names at ≡ Some name → slice_get (names ++ other ∷ []) at ≡ Some name
 get_before [] at name other e = absurd (cc e)
 get_before (n ∷ names) zero name other e = e
 get_before (n ∷ names) (suc at) name other e = get_before names at name other e
 
+-- and the other stands at the place behind all
 get_last : (names : List ℕ) (name : ℕ) → slice_get (names ++ name ∷ []) (length names) ≡ Some name
 get_last [] name = refl
 get_last (n ∷ names) name = get_last names name

@@ -63,6 +63,7 @@ AddsMoves first before now pool aim limit number moves =
     ⊎ ((moves ≢ 0)
     × (now ≡ before ++ record { epoch = number; change = plan_change (after first before) pool aim limit } ∷ []))
 
+-- a plan adds the change of its moves, if it has any; what is refused adds nothing
 abbrev pub AddsPlan : ClusterMap → List Step → List Step → ℕ → Aim → ℕ → Result Balance Refusal → Type 0
 AddsPlan first before now pool aim limit r =
     MatchResult r (λ ok. AddsMoves first before now pool aim limit ok.epoch ok.moves) (λ e. now ≡ before)

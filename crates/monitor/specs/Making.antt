@@ -23,6 +23,7 @@ abbrev pub commits_made : Result Commit Refusal → ℕ
 commits_made (Ok ok) = 1
 commits_made (Err e) = 0
 
+-- how many epochs the answer to a plan has made
 abbrev pub plans_made : Result Balance Refusal → ℕ
 plans_made (Ok ok) = if ok.moves == 0 then 0 else 1
 plans_made (Err e) = 0

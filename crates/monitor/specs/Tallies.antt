@@ -8,6 +8,7 @@ use Rattle.monitor.specs.declared.tally.Tally.{Tally}
 abbrev pub names_of : List Kept → List ℕ
 names_of kept = map (λ k. k.name) kept
 
+-- what some counts come to
 abbrev pub total_of : List Kept → ℕ
 total_of kept = sum_by (λ k. k.count) kept
 

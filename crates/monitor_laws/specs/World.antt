@@ -21,6 +21,7 @@ pub data Told : Type 0 where
   look : ℕ → StateFacts → TableFacts → Told
   change : ℕ → List Step → Step → Told
 
+-- the world of a monitor: its lock and its state, what is sealed and told, and what its followers have read
 pub record MonitorWorld : Type 0 where
   pub lock : LockWorld
   -- the state in its slot, or in the hands of a writer
@@ -65,6 +66,7 @@ PutsBack first w lockstep.WriterLeaves = Unit {0}
 abbrev pub with_look : MonitorWorld → ℕ → MonitorWorld
 with_look w seat = record w { told = look seat w.state w.table ∷ w.told }
 
+-- the world once an incremental is sealed by a seat
 abbrev pub with_sealed : MonitorWorld → ℕ → Step → MonitorWorld
 with_sealed w seat s = record w { sealed = w.sealed ++ s ∷ []; told = change seat w.sealed s ∷ w.told }
 

@@ -39,5 +39,6 @@ row_presence row = option_map_or (λ s. record { exists = s.exists; up = s.up })
   up = false;
 })
 
+-- an OSD that is not listed has reweight 0
 abbrev pub row_weight : Option OsdState → ℕ
 row_weight row = option_map_or (λ s. s.weight) row 0

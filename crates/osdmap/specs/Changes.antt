@@ -51,6 +51,7 @@ pools_after m c = map (with_growths c.pools.grow) (pools_there m c)
 abbrev pub buckets_after : ClusterMap → ChangeParts → List Bucket
 buckets_after m c = option_map_or (λ k. k.buckets) c.crush m.buckets
 
+-- the rules after a change
 abbrev pub rules_after : ClusterMap → ChangeParts → List NumberedRule
 rules_after m c = option_map_or (λ k. k.rules) c.crush m.rules
 

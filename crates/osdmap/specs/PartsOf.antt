@@ -25,12 +25,15 @@ use Rattle.maptypes.specs.declared.rules.NumberedRule.{NumberedRule}
 use Rattle.maptypes.specs.Pools.{PoolFacts}
 use Rattle.osdmap.specs.Maps.{ClusterMap, osd_at}
 
+-- an item
 abbrev pub item_part : Item → ItemPart
 item_part i = record { id = i.id; weight = pos i.weight }
 
+-- a bucket
 abbrev pub bucket_part : Bucket → BucketPart
 bucket_part b = record { id = b.id; level = pos b.level; kind = b.kind; items = map item_part b.items }
 
+-- a step
 abbrev pub step_part : Step → StepPart
 step_part (TryFor n) = SetChooseTries (pos n)
 step_part (TryForLeaves n) = SetChooseleafTries (pos n)
@@ -45,9 +48,11 @@ step_part (ChooseBy c) = Chooses (record {
 })
 step_part EmitAll = Emit
 
+-- a rule
 abbrev pub rule_part : NumberedRule → RulePart
 rule_part r = record { id = pos r.id; kind = r.rule.kind; steps = map step_part r.rule.steps }
 
+-- a pool
 abbrev pub pool_part : PoolFacts → PoolPart
 pool_part p = record {
   id = pos p.id;
@@ -74,9 +79,11 @@ part_listed m n = option_and_then (λ s. if is_notable s then Some (osd_part n s
 abbrev pub osd_parts : ClusterMap → List OsdPart
 osd_parts m = filter_map (part_listed m) (range_with_len 0 (length m.presences))
 
+-- a group
 abbrev pub pg_part : Pg → PgParts
 pg_part g = record { pool = Some g.pool; number = Some g.number }
 
+-- a pair
 abbrev pub pair_part : Pair → PairPart
 pair_part p = record { from = pos p.from; to = pos p.to }
 

@@ -66,6 +66,7 @@ exceptions_ok names sound pools exists es =
 abbrev pub explicit_of : MapParts → List (Exception ℕ)
 explicit_of p = map (exception_of nat_abs) p.pg_upmap
 
+-- the pairs that parts state, in the order of the text
 abbrev pub items_of : MapParts → List (Exception Pair)
 items_of p = map (exception_of pair_of) p.pg_upmap_items
 
@@ -103,6 +104,7 @@ presence_in osds n = option_map_or (λ o. record { exists = o.exists; up = o.up 
   up = false;
 })
 
+-- the reweight of an OSD by its row among those that are listed, 0 where there is none
 abbrev pub weight_in : List OsdPart → ℕ → ℕ
 weight_in osds n = option_map_or (λ o. nat_abs o.weight) (listed_osd osds n) 0
 

@@ -35,6 +35,7 @@ flat_map : {X : Type 0} (stated : Data → Option X) (o : Option Data)
 flat_map stated None = refl
 flat_map stated (Some d) = refl
 
+-- what a key that has to be there states is what its slot has
 pub slot_states : {X : Type 0} (stated : Data → Option X) (q : List ℕ) (ms : Members) (s : Option (Option X))
     → s ≡ member_slot stated q ms → at_key stated q ms ≡ flat s
 slot_states stated q ms s e = flat_map stated (get_member q ms) ∙ ap flat (sym e)
@@ -45,6 +46,7 @@ there_map : {X : Type 0} (stated : Data → Option X) (o : Option Data)
 there_map stated None = refl
 there_map stated (Some d) = refl
 
+-- what a key that may be missing states is what its slot has, if it has anything
 pub slot_there : {X : Type 0} (stated : Data → Option X) (q : List ℕ) (ms : Members) (s : Option (Option X))
     → s ≡ member_slot stated q ms → if_at_key stated q ms ≡ if_there s
 slot_there stated q ms s e = there_map stated (get_member q ms) ∙ ap if_there (sym e)
@@ -55,6 +57,7 @@ list_map : {X : Type 0} (stated : Data → Option X) (o : Option Data)
 list_map stated None = refl
 list_map stated (Some d) = refl
 
+-- the list of a key that may be missing is what its slot has, and else empty
 pub slot_listed : {X : Type 0} (stated : Data → Option X) (q : List ℕ) (ms : Members) (s : Option (Option (List X)))
     → s ≡ member_slot (stated_list stated) q ms → list_at_key stated q ms ≡ or_empty s
 slot_listed stated q ms s e = list_map stated (get_member q ms) ∙ ap or_empty (sym e)
@@ -65,6 +68,7 @@ zero_map : {X : Type 0} (stated : Data → Option X) (o : Option Data)
 zero_map stated None = refl
 zero_map stated (Some d) = refl
 
+-- a key that must not be there states 0 where its slot is empty
 pub slot_zero : {X : Type 0} (stated : Data → Option X) (q : List ℕ) (ms : Members) (s : Option (Option X))
     → s ≡ member_slot stated q ms → zero_but_at_key q ms ≡ zero_if s
 slot_zero stated q ms s e = zero_map stated (get_member q ms) ∙ ap zero_if (sym e)

@@ -38,6 +38,7 @@ bucket_kind word =
     else if bytes_eq word (codes "straw2") then Some Straw2
     else None
 
+-- the kind of a bucket, by its word
 abbrev pub bucket_kind_of : Data → Option BucketKind
 bucket_kind_of d = as_str d >>= bucket_kind
 
@@ -68,6 +69,7 @@ rule_kind word =
     else if bytes_eq word (codes "erasure") then Some Erasure
     else None
 
+-- the kind of a rule, by its word
 abbrev pub rule_kind_of : Data → Option RuleKind
 rule_kind_of d = as_str d >>= rule_kind
 
@@ -94,6 +96,7 @@ tries_of d = if has_count 2 d then (do
   tries ← place whole_number 1 d
   Some (SetChooseTries tries)) else None
 
+-- ["set_chooseleaf_tries", n]
 unfoldable pub leaf_tries_of : Data → Option StepPart
 leaf_tries_of d = if has_count 2 d then (do
   tries ← place whole_number 1 d
@@ -105,6 +108,7 @@ leaf_vary_of d = if has_count 2 d then (do
   vary ← place whole_number 1 d
   Some (SetChooseleafVaryR vary)) else None
 
+-- ["set_chooseleaf_stable", n]
 unfoldable pub leaf_stable_of : Data → Option StepPart
 leaf_stable_of d = if has_count 2 d then (do
   stable ← place whole_number 1 d

@@ -26,6 +26,7 @@ step_word word =
     else if bytes_eq word (codes "set_chooseleaf_stable") then Some LeafStable
     else None
 
+-- the word of a step, where a value is one
 abbrev pub step_word_of : Data → Option StepWord
 step_word_of d = as_str d >>= step_word
 

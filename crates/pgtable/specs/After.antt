@@ -31,6 +31,7 @@ touched_pools u = reverse (filter (is_touched_by u) (map_after u).pools)
 abbrev pub pool_evals : Update → PoolFacts → ℕ
 pool_evals u p = evals_in (map_after u) u.change.now p
 
+-- how many groups a change evaluates in all
 abbrev pub change_evals : Update → ℕ
 change_evals u = evals_of (map_after u) u.change.now
 

@@ -17,6 +17,7 @@ abbrev pub candidates_by : List Reweight → ClusterMap → ChangeParts → List
 candidates_by [] m c = named_groups c
 candidates_by (w ∷ ws) m c = union_of (union_of (named_groups c) (excepted_groups m.explicit)) (excepted_groups m.items)
 
+-- the same by the reweights of the change itself
 unfoldable pub candidates : ClusterMap → ChangeParts → List Pg
 candidates m c = candidates_by c.weights m c
 

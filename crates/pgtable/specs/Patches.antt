@@ -60,6 +60,7 @@ concerned_numbers m c p = filter (λ n. concerns m c (group_of p n)) (range_with
 abbrev pub with_sets : ClusterMap → PoolFacts → List ℕ → List (ℕ × Places)
 with_sets m p numbers = map (λ n. (n, mapped_set m p n)) numbers
 
+-- the groups of a pool whose exceptions a change concerns, with their mapped sets
 abbrev pub changes_of : ClusterMap → ChangeParts → PoolFacts → List (ℕ × Places)
 changes_of m c p = with_sets m p (concerned_numbers m c p)
 

@@ -14,10 +14,12 @@ use Rattle.cephimport.specs.Whole.{profile_of}
 use Rattle.readmap.specs.declared.text.Untold.{Untold}
 use Rattle.readmap.specs.declared.text.Untold.TheVariants as reasons
 
+-- why no map is told, by what ended an import
 abbrev pub untold_by_import : ImportError → Untold
 untold_by_import errors.Memory = reasons.Memory
 untold_by_import (errors.StaysOut why) = reasons.StaysOut why
 
+-- why no map is told, by a refusal
 abbrev pub untold_by : Refusal → Untold
 untold_by OutOfMemory = reasons.Memory
 untold_by refusal = reasons.Refused refusal

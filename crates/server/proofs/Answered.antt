@@ -18,6 +18,7 @@ pub none_answered : (monitor : Monitored) (seen : Sight) → seen ≡ unseen (le
 none_answered monitor seen same =
     ([], [], seen, subst (λ s. IsTranscript (session_of monitor lets_all) 1 s [] [] seen) same (transcript_none (session_of monitor lets_all) 1 seen), refl)
 
+-- one that has seen nothing and has no follower has answered nothing yet
 pub none_yet : (monitor : Monitored) (asker : Asker) → asker.follower ≡ None → first_sight asker.member ≡ unseen (length monitor.row.cells)
     → HasAnsweredBy monitor (sight_of asker)
 none_yet monitor asker none same =
@@ -39,6 +40,7 @@ broken m first between last whole others before out told (line, rest, answer, pa
           (subst (λ n. IsTranscript m n between (line ∷ []) answer last) same one),
     )
 
+-- one that stops where it was after a line has answered the lines up to there
 rested : {S : Type 0} (m : Manner S) (first between last : S) (whole : List (List ℕ)) (before : List ℕ)
     → IsTranscript m 1 first whole before between → last ≡ between → HasLines m first last
 rested m first between last whole before told is = (whole, before, subst (λ s. IsTranscript m 1 first whole before s) (sym is) told)

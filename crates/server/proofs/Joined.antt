@@ -106,6 +106,7 @@ reads_row : (monitor : Monitored) (left : Left) (follower : Option Followed) →
 reads_row monitor left None follows = tt
 reads_row monitor left (Some f) follows = follows.row
 
+-- each follower that is left reads the monitor's row
 pub rows_left : (monitor : Monitored) (number : ℕ) (parts : List Part) (lefts : List Left) → Pairs (IsLeftBy monitor) number parts lefts
     → All (ReadsRow monitor.row) lefts
 rows_left monitor number [] [] pairs = All-nil (ReadsRow monitor.row)
@@ -131,6 +132,7 @@ follow_more before after lefts at left within is same so_far here =
     All-more (FollowsIn after.history) lefts at left within
     (subst (λ (s : Seen). All (FollowsIn s.history) (take at lefts)) (sym same) so_far) (subst (FollowsIn after.history) is here)
 
+-- all followers that are left begin it
 pub all_follow : (all : List Step) (lefts : List Left) (at : ℕ) → length lefts ≤ at → All (FollowsIn all) (take at lefts) → All (FollowsIn all) lefts
 all_follow all lefts at ended follow = subst (All (FollowsIn all)) (take_all at lefts ended) follow
 

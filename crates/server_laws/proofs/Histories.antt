@@ -15,16 +15,19 @@ abbrev pub AreFrom : {X : Type 0} → List X → List X → List (Visit X) → T
 AreFrom base ahead [] = Begins base ahead
 AreFrom base ahead (v ∷ visits) = Begins (behind v) ahead × AreFrom base v.found visits
 
+-- visits up to a beginning are visits up to what goes on from it
 further : {X : Type 0} (base mid ahead : List X) (visits : List (Visit X)) → AreFrom base mid visits → Begins mid ahead
     → AreFrom base ahead visits
 further base mid ahead [] p q = begins_on base mid ahead p q
 further base mid ahead (v ∷ visits) p q = (begins_on (behind v) mid ahead p.0 q, p.1)
 
+-- later visits and those before them, up to where the later ones begin, are one list of visits
 pub joined : {X : Type 0} (base mid ahead : List X) (later visits : List (Visit X)) → AreFrom mid ahead later → AreFrom base mid visits
     → AreFrom base ahead (later ++ visits)
 joined base mid ahead [] visits p q = further base mid ahead visits q p
 joined base mid ahead (v ∷ later) visits p q = (p.0, joined base mid v.found later visits p.1 q)
 
+-- visits from a list on are in order
 plain : {X : Type 0} (base ahead : List X) (visits : List (Visit X)) → AreFrom base ahead visits → AreInOrder ahead visits
 plain base ahead [] p = tt
 plain base ahead (v ∷ visits) p = (p.0, plain base v.found visits p.1)
@@ -39,11 +42,13 @@ pub before_begins : {X : Type 0} (xs : List X) (made : Option X) → Begins xs (
 before_begins xs None = begins_itself xs
 before_begins xs (Some x) = (x ∷ [], refl)
 
+-- behind a visit a history is as long as before, or one longer, and then the visit has put something
 pub put_length : {X : Type 0} (xs : List X) (made : Option X)
     → (length (put xs made) ≡ length xs) ⊎ ((length (put xs made) ≡ length xs + 1) × ((x : X) × (made ≡ Some x)))
 put_length xs None = inl refl
 put_length xs (Some x) = inr (omega (arith, length-append xs (x ∷ [])), (x, refl))
 
+-- a beginning is no longer than what goes on from it
 pub within : {X : Type 0} (xs ys : List X) → Begins xs ys → length xs ≤ length ys
 within xs ys b = omega (arith, length-append xs b.0, ap length b.1)
 
@@ -54,6 +59,7 @@ abbrev pub IsEntered : {X : Type 0} → ℕ → List (Visit X) → Type 0
 IsEntered at [] = ⊥
 IsEntered {X} at (v ∷ visits) = (((x : X) × (v.made ≡ Some x)) × (length v.found ≡ at)) ⊎ IsEntered at visits
 
+-- behind a visit that has put something a history is one longer
 grown : {X : Type 0} (v : Visit X) (x : X) → v.made ≡ Some x → length (behind v) ≡ length v.found + 1
 grown v x is = ap length (ap (put v.found) is) ∙ length-append v.found (x ∷ [])
 

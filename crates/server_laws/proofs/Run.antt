@@ -16,18 +16,22 @@ use Rattle.server_laws.proofs.Merged.{AreAllInOrder, IsEnteredIn, entered_all}
 use Rattle.server_laws.proofs.Apart.{Maker, AreMarked, AreAllMarked, visits_of, one_if, makers, one_list}
 use Rattle.server_laws.proofs.Session.{Walks, walks}
 
+-- a list of so many equal entries is so long
 so_long : (n : ℕ) (b : Bool) → length (replicate n b) ≡ n
 so_long zero b = refl
 so_long (suc n) b = ap (λ k. suc k) (so_long n b)
 
+-- among marks of which none is set, none is at any place
 none_marked : (n at : ℕ) → slice_index_or (replicate n false) at false ≡ true → ⊥
 none_marked zero at h = cc h
 none_marked (suc n) zero h = cc h
 none_marked (suc n) (suc at) h = none_marked n at h
 
+-- whether the member of a session that is left has the mark of a place
 abbrev mark_at : ℕ → LeftFacts → Bool
 mark_at at left = slice_index_or left.own at false
 
+-- no more stay no more where the same one is counted to both
 counts : (b : Bool) (rest more : ℕ) → rest ≤ more → one_if b + rest ≤ cond b 1 0 + more
 counts true rest more h = omega arith
 counts false rest more h = omega arith
@@ -45,6 +49,7 @@ pub record One (basis : Basis) (all : List Step) (number : ℕ) (part : Part) (l
   pub marked : AreMarked left.own visits
   pub entered : (at : ℕ) → mark_at at left ≡ true → IsEntered at visits
 
+-- a session that was told its lines, up to what is left of it, is one who has marks
 walked : (basis : Basis) (all : List Step) (number : ℕ) (part : Part) (left : LeftFacts) (lines : List (List ℕ)) (answers : List ℕ)
     (last : Sight) → Begins last.member.history all → last.member.own ≡ left.own
     → (walk : Walks basis number all 1 (unseen basis.most) lines answers last) → IsTold basis all number part left walk.visits
@@ -60,6 +65,7 @@ walked basis all number part left lines answers last begins marks walk told = re
   ];
 }
 
+-- each session that is left is one who has marks
 one : (basis : Basis) (all : List Step) (number : ℕ) (part : Part) (left : LeftFacts) → IsLeftIn basis all number part left
     → One basis all number part left
 one basis all number (Script script) left (end, begins, follow, own, ((answers, last, told, same, text), none)) =
@@ -84,6 +90,7 @@ pub record Found (basis : Basis) (all : List Step) (number : ℕ) (parts : List 
   pub fewer : (at : ℕ) → makers at ms ≤ count_by (mark_at at) lefts
   pub entered : (at : ℕ) → 1 ≤ count_by (mark_at at) lefts → IsEnteredIn at (visits_of ms)
 
+-- what is left of the sessions of a run is of several who have marks
 find : (basis : Basis) (all : List Step) (number : ℕ) (parts : List Part) (lefts : List LeftFacts) → Pairs (IsLeftIn basis all) number parts lefts
     → Found basis all number parts lefts
 find basis all number [] [] pairs = record {
@@ -112,6 +119,7 @@ find basis all number (p ∷ ps) (l ∷ ls) (here, pairs) =
       ];
     }
 
+-- the sessions of a run have made its history, one visit after the other
 pub runs_as_one : RunsAsOne
 runs_as_one m journal profile parts lefts all once pairs =
     let found = find (run_basis m journal profile parts) all 1 parts lefts pairs in
@@ -123,6 +131,7 @@ runs_as_one m journal profile parts lefts all once pairs =
       list.2,
     )
 
+-- so have those of what a run has printed
 pub prints_as_one : PrintsAsOne
 prints_as_one m journal profile parts told before after (lefts, (all, lawful, once, kept, pairs), tells, out) =
     (lefts, all, lawful, out, runs_as_one m journal profile parts lefts all once pairs)

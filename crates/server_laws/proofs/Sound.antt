@@ -24,6 +24,7 @@ unfolding IsLawful
 lawful_front m [] rest lawful = tt
 lawful_front m (s ∷ front) rest lawful = (lawful.0, lawful.1, lawful_front (apply m s) front rest lawful.2)
 
+-- a beginning of a history of changes is one of changes
 changes_front : (front rest : List Step) → AreChanges (front ++ rest) → AreChanges front
 changes_front [] rest brings = All-nil (λ (s : Step). IsChange s.change)
 changes_front (s ∷ front) rest brings =
@@ -42,6 +43,7 @@ holds_after m (s ∷ steps) holds brings lawful =
 abbrev state_of : ClusterMap → Line → List Step → StateFacts
 state_of m row found = facts m (record { row = row; history = found }) (after m found) 0 false
 
+-- the table of a map
 abbrev table_of : ClusterMap → TableFacts
 table_of m = record { pools = tables_of m; up = ups_of m }
 
@@ -84,5 +86,6 @@ module _ (m : ClusterMap) (row : Line) (holds : HoldsTogether m) (begins : row.f
       let found-brings = changes_front v.found b.0 (subst AreChanges (sym b.1) brings) in
       one_more all v visits v.made refl brings lawful made.0 (tells v.found visits found-brings found-lawful made.1)
 
+-- visits that have made a lawful history are told as the law over events has it
 pub tells_as_law : TellsAsLaw
 tells_as_law m row all visits holds brings begins lawful made = tells m row holds begins all visits brings lawful made

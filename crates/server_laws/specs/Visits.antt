@@ -13,6 +13,7 @@ abbrev pub put : {X : Type 0} → List X → Option X → List X
 put found None = found
 put found (Some x) = found ++ x ∷ []
 
+-- the same, by what the visit has found and put
 abbrev pub behind : {X : Type 0} → Visit X → List X
 behind v = put v.found v.made
 

@@ -154,6 +154,7 @@ Reaches first wanted before now r =
     × MatchResult r (λ epoch. (epoch ≡ (after first now).epoch) × (wanted ≤ epoch))
     (λ e. (e ≡ SeatSpent) ⊎ ((e ≡ AwaitSpent) × ((after first now).epoch < wanted)))
 
+-- what an `await` line answers in the turn of its member, which makes no epoch
 abbrev pub Awaits : Basis → ℕ → Account → Account → Result ℕ Refusal → Type 0
 Awaits basis wanted before now r = InTurn basis before now (Reaches basis.first wanted) none_made r
 

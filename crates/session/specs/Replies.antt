@@ -16,14 +16,17 @@ abbrev pub up_word : Speaker → List ℕ
 up_word Monitor = codes "up"
 up_word Follower = codes "fup"
 
+-- the first word of the sets of a pool
 abbrev pub ups_word : Speaker → List ℕ
 ups_word Monitor = codes "ups"
 ups_word Follower = codes "fups"
 
+-- the first word of an epoch
 abbrev pub epoch_word : Speaker → List ℕ
 epoch_word Monitor = codes "epoch"
 epoch_word Follower = codes "follow"
 
+-- the first word of a map's text
 abbrev pub dump_word : Speaker → List ℕ
 dump_word Monitor = codes "dump"
 dump_word Follower = codes "fdump"

@@ -42,6 +42,7 @@ account_in shared member =
 abbrev pub sight_by : Member → Option Followed → Sight
 sight_by member follower = record { member = account member; follower = track_of follower }
 
+-- what is seen by a member that shares the lock, and by a follower
 abbrev pub sight_in : {K : Type 0} → Shared K → Member → Option Followed → Sight
 sight_in shared member follower = record { member = account_in shared member; follower = track_of follower }
 

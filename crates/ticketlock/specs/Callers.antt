@@ -36,15 +36,19 @@ module _ {T : Type 0} {f : fact.Ghosts T} (lock : Lock T f) where
   abbrev pub IsSeatOf : Seat → Type 0
   IsSeatOf seat = IsAt lock.words seat.place
 
+  -- a wait to read is one at this lock
   abbrev pub IsQueuedReadOf : QueuedRead → Type 0
   IsQueuedReadOf queued = IsAt lock.words queued.place
 
+  -- a wait to write is one at this lock
   abbrev pub IsQueuedWriteOf : QueuedWrite → Type 0
   IsQueuedWriteOf queued = IsAt lock.words queued.place
 
+  -- a turn to read is one of this lock
   abbrev pub IsTurnReadOf : TurnRead → Type 0
   IsTurnReadOf turn = IsAt lock.words turn.place
 
+  -- a turn to write is one of this lock
   abbrev pub IsTurnWriteOf : TurnWrite → Type 0
   IsTurnWriteOf turn = IsAt lock.words turn.place
 
@@ -52,6 +56,7 @@ module _ {T : Type 0} {f : fact.Ghosts T} (lock : Lock T f) where
   abbrev pub IsReadOf : ReadGuard T → Type 0
   IsReadOf guard = IsAt lock.words guard.turn.place × (first_of_read guard ≡ first_of)
 
+  -- a guard to write is one of this lock, and knows the value that the lock was made with
   abbrev pub IsWriteOf : WriteGuard T → Type 0
   IsWriteOf guard = IsAt lock.words guard.turn.place × (first_of_write guard ≡ first_of)
 
@@ -60,5 +65,6 @@ module _ {T : Type 0} {f : fact.Ghosts T} (lock : Lock T f) where
   GivesRead turn guard = (guard.turn ≡ turn) × IsReadOf guard
 
 module _ {T : Type 0} {f : fact.Ghosts T} (fact_of : T → T → Type 0) (lock : Lock T f) where
+  -- a turn to write gives a guard that has the turn, and whose value meets the fact
   abbrev pub GivesWrite : TurnWrite → WriteGuard T → Type 0
   GivesWrite turn guard = (guard.turn ≡ turn) × IsWriteOf lock guard × fact_of (first_of lock) guard.value

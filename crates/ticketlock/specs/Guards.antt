@@ -8,6 +8,7 @@ module _ {T : Type 0} where
   abbrev pub first_of_read : ReadGuard T → T
   first_of_read guard = guard.claim.tag.value
 
+  -- the value that the lock of a guard to write was made with
   abbrev pub first_of_write : WriteGuard T → T
   first_of_write guard = guard.home.tag.value
 

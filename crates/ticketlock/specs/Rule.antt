@@ -71,9 +71,11 @@ with_view w seat v = record w { views = slice_set w.views seat v }
 abbrev pub draw_word_up : LockWorld → ℕ → View → LockWorld
 draw_word_up w seat v = record w { draw_word = w.draw_word + 1; views = slice_set w.views seat v }
 
+-- the same with R one more
 abbrev pub reader_word_up : LockWorld → ℕ → View → LockWorld
 reader_word_up w seat v = record w { reader_word = w.reader_word + 1; views = slice_set w.views seat v }
 
+-- the same with W one more
 abbrev pub writer_word_up : LockWorld → ℕ → View → LockWorld
 writer_word_up w seat v = record w { writer_word = w.writer_word + 1; views = slice_set w.views seat v }
 

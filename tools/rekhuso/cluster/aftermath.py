@@ -7,6 +7,7 @@ from dataclasses import dataclass
 from typing import Union
 
 from ..faults import Fault
+from ..program.map_forms import FULL_WEIGHT
 from ..program.maps import (
     Change,
     Exceptions,
@@ -124,7 +125,7 @@ def raw_sets(maps: list[Map], groups: set[str], program: Program) -> dict[str, P
 
 def present_in(cluster: Cluster) -> Present:
     """What a monitor looks at in a cluster beside the CRUSH map."""
-    reweights = {**cluster.gone, **{osd: round(own["weight"] * 65536) for osd, own in cluster.osds.items()}}
+    reweights = {**cluster.gone, **{osd: round(own["weight"] * FULL_WEIGHT) for osd, own in cluster.osds.items()}}
     return Present({pool["pool"]: pool_of(pool) for pool in cluster.pools}, reweights, cluster.osd_dump["max_osd"])
 
 

@@ -13,6 +13,7 @@ from uuid import UUID
 
 from ..faults import Trouble
 from ..files import JsonObject, remembered, unpacked_bytes
+from ..program.map_forms import FULL_WEIGHT
 from ..together import Binary
 from .encoded import Encoded, Misread, crc32c
 from .releases import RELEASES
@@ -20,7 +21,7 @@ from .releases import RELEASES
 # How a map begins: the version of its outermost section, and the least version by which it is read; and from which
 # version on no release has had one.
 HEAD, KNOWN, LATEST = b"\x08\x07", 7, 32
-EXISTS, UP, WHOLE = 1, 2, 65536
+EXISTS, UP = 1, 2
 # Each device of a CRUSH map is told, so that of many more no list is made.
 MOST_DEVICES = 2**20
 # What stands in a pool behind its flags, each by the version from which on it does: so many bytes, or what is read.
@@ -128,8 +129,8 @@ def osds_in(states: list[int], weights: list[int], affinities: list[int]) -> lis
         {
             "osd": osd,
             "up": int(bool(state & UP)),
-            "weight": weight / WHOLE,
-            "primary_affinity": affinity / WHOLE,
+            "weight": weight / FULL_WEIGHT,
+            "primary_affinity": affinity / FULL_WEIGHT,
             "state": ["exists"],
         }
         for osd, (state, weight, affinity) in enumerate(zip(states, weights, affinities))
@@ -179,7 +180,7 @@ def for_clients(whole: Encoded) -> tuple[JsonObject, JsonObject]:
     found["max_osd"], states, weights = read.word(), read.items(read.word), read.items(read.word)
     pass_addresses(read)
     found.update(temporary_in(read))
-    osds = osds_in(states, weights, read.items(read.word) or [WHOLE] * len(states))
+    osds = osds_in(states, weights, read.items(read.word) or [FULL_WEIGHT] * len(states))
     found["gone"] = [[osd, own] for osd, (own, state) in enumerate(zip(weights, states)) if not state & EXISTS]
     crush = crush_in(read.take(read.word()))
     found["erasure_code_profiles"] = {name: dict(own) for name, own in read.table(read.text, read.texts)}

@@ -62,7 +62,7 @@ class CephCommand:
         """Ends the connection, which is none."""
 
 
-class Connection(together.Cluster):
+class Connection(together.ConnectedCluster):
     """An open connection to a cluster, whose manager is asked too where there is one."""
 
     def has_manager(self) -> bool:

@@ -4,7 +4,7 @@ from __future__ import annotations
 
 from ..faults import Fault, Refused
 from ..program.defects import map_defects
-from ..program.map_forms import SETTING
+from ..program.map_forms import FULL_WEIGHT, SETTING
 from ..program.maps import Bucket, Map, Program, Rule, needs_stock, osd_gone
 from ..program.monitor import Monitor
 from .cluster import Cluster
@@ -30,7 +30,7 @@ def map_of(cluster: Cluster) -> Map:
     ]
     is_second = any(step[0] in SETTING for rule in rules for step in rule["steps"])
     explicit, items = cluster.exceptions
-    gone = [osd_gone(osd, min(weight, 65536)) for osd, weight in cluster.gone.items() if osd < cluster.max_osd]
+    gone = [osd_gone(osd, min(weight, FULL_WEIGHT)) for osd, weight in cluster.gone.items() if osd < cluster.max_osd]
     return {
         "buckets": [bucket_of(cluster, number) for number in cluster.kept],
         "epoch": cluster.epoch,

@@ -8,6 +8,7 @@ from typing import cast
 
 from ..faults import Fault, Trouble
 from ..files import JsonObject, json_of
+from ..program.map_forms import FULL_WEIGHT
 from ..running import doing
 from ..terminal import in_one_line
 from ..values import SLOTS
@@ -115,7 +116,7 @@ def gone_in(tree: Tree, osd_dump: OsdDump) -> dict[int, int]:
     """
     there = {osd["osd"] for osd in osd_dump["osds"]}
     return {
-        node["id"]: round(node["reweight"] * 65536)
+        node["id"]: round(node["reweight"] * FULL_WEIGHT)
         for node in tree["nodes"]
         if node["id"] >= 0 and node.get("exists") == 0 and node.get("reweight", -1) >= 0 and node["id"] not in there
     }

@@ -6,7 +6,7 @@ import struct
 from dataclasses import dataclass
 from typing import Any
 
-from ..program.map_forms import EXCEPTIONS, ExceptionKey
+from ..program.map_forms import EXCEPTIONS, ExceptionKey, FULL_WEIGHT
 from ..program.maps import Change, altered, entries_of
 from ..values import SLOTS
 from .cluster import Cluster
@@ -18,7 +18,7 @@ from .shadows import free_id, total, weight_of, with_shadows
 def weight_units(weight: float) -> int:
     """A weight in units of 1/65,536 as Ceph takes it: as a number of 32 bits, and the rest cut off."""
     number: float = struct.unpack("f", struct.pack("f", weight))[0]
-    return int(number * 65536)
+    return int(number * FULL_WEIGHT)
 
 
 # Weights in the CRUSH map
@@ -138,7 +138,7 @@ def pools_after(dump: OsdDump, change: Change) -> list[DumpPool]:
 def osds_after(dump: OsdDump, change: Change) -> list[DumpOsd]:
     """The OSDs after a change."""
     ups = {**dict.fromkeys(change.get("down", []), 0), **dict.fromkeys(change.get("up", []), 1)}
-    weights = {osd: weight / 65536 for osd, weight in change.get("weight", [])}
+    weights = {osd: weight / FULL_WEIGHT for osd, weight in change.get("weight", [])}
     return [
         altered(osd, up=ups.get(osd["osd"], osd["up"]), weight=weights.get(osd["osd"], osd["weight"]))
         for osd in dump["osds"]

@@ -6,7 +6,7 @@ from collections.abc import Mapping
 from typing import Callable
 
 from ..files import JsonObject
-from ..program.map_forms import EXCEPTIONS, ExceptionKind
+from ..program.map_forms import EXCEPTIONS, ExceptionKind, FULL_WEIGHT
 from ..program.maps import Entry, Exceptions, Osd, Pool, entries_of, osd_there
 from .dump_types import DumpOsd, DumpPool
 
@@ -17,7 +17,7 @@ TYPES_BY_KIND = {name: number for number, name in KINDS_BY_TYPE.items()}
 
 def osd_of(osd: DumpOsd) -> Osd:
     """An OSD in the map's form; a reweight above 1 is one of 1 to Ceph."""
-    return osd_there(osd["osd"], bool(osd["up"]), min(round(osd["weight"] * 65536), 65536))
+    return osd_there(osd["osd"], bool(osd["up"]), min(round(osd["weight"] * FULL_WEIGHT), FULL_WEIGHT))
 
 
 def pool_of(pool: DumpPool) -> Pool:
@@ -48,7 +48,7 @@ def dump_pool(pool: Pool, name: str) -> DumpPool:
 
 def dump_osd(osd: Osd) -> DumpOsd:
     """An OSD that exists as `ceph osd dump` has it."""
-    return {"osd": osd["id"], "up": int(osd["up"]), "weight": osd["weight"] / 65536, "state": ["exists"]}
+    return {"osd": osd["id"], "up": int(osd["up"]), "weight": osd["weight"] / FULL_WEIGHT, "state": ["exists"]}
 
 
 def exceptions_in(dump: Mapping[str, object]) -> Exceptions:

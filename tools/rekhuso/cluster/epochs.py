@@ -12,12 +12,11 @@ from typing import Any, cast
 
 from ..faults import Unopened
 from ..program.defects import map_defects
-from ..program.map_forms import CRUSH_KEYS, EXCEPTIONS, ExceptionKey, GROWING, change_form
+from ..program.map_forms import CRUSH_KEYS, EXCEPTIONS, ExceptionKey, FULL_WEIGHT, GROWING, change_form
 from ..program.maps import Change, Map, Pool, altered, entries_of, group_key
 from ..program.stores import StoredChange, StoredJournal
 from .json_forms import CrushParts, EpochParts, ExceptionChangeParts, GrowthParts, grown_numbers
 
-FULL_WEIGHT = 65536
 # The form of a change of a store, whose program reads all of them under `--stock`.
 FORM = change_form(True)
 

@@ -7,6 +7,7 @@ from collections.abc import Collection, Iterable
 from copy import copy
 
 from ..program.answers import Up
+from ..program.map_forms import FULL_WEIGHT
 from ..program.maps import Map, Pool, RuleStep, groups_in, rule_for
 from .evenness import standing_in, sums_by_osd
 from .json_forms import FullParts, PoolRowParts, RowParts, SpreadParts, TotalParts
@@ -174,7 +175,7 @@ class Shares:
     def total(self) -> TotalParts:
         """What the tree and the OSDs outside come to: weights, groups and shares."""
         return {
-            "weight": sum(weight for item, weight in self.items.items() if item >= 0) / 65536,
+            "weight": sum(weight for item, weight in self.items.items() if item >= 0) / FULL_WEIGHT,
             "groups": sum(self.counts.values()),
             "share": round(sum(self.wanted.values()), 2),
             "reach": round(sum(self.reached.values()), 2),
@@ -192,8 +193,8 @@ class Shares:
         groups, wanted = self.counts.get(osd, 0), self.wanted.get(osd, 0.0)
         return {
             "id": osd,
-            "weight": self.items.get(osd, 0) / 65536,
-            "reweight": (self.osds[osd]["weight"] if osd in self.osds else 0) / 65536,
+            "weight": self.items.get(osd, 0) / FULL_WEIGHT,
+            "reweight": (self.osds[osd]["weight"] if osd in self.osds else 0) / FULL_WEIGHT,
             "state": self.state(osd),
             "groups": groups,
             "share": round(wanted, 2),

@@ -4,6 +4,7 @@ from __future__ import annotations
 
 from typing import Any
 
+from ..program.map_forms import FULL_WEIGHT
 from .dump_forms import WEIGHT_SET, misfits
 from .dump_types import CrushDump, DumpPool
 
@@ -21,5 +22,5 @@ def compat_weight_set(entries: dict[str, list[Any]]) -> dict[int, list[int]]:
     found: dict[int, list[int]] = {}
     for entry in entries["-1"] if list(entries) == ["-1"] and isinstance(entries["-1"], list) else []:
         if not misfits(entry, WEIGHT_SET, "") and len(entry.get("weight_set", [])) == 1 and not entry.get("ids"):
-            found[entry["bucket_id"]] = [round(weight * 65536) for weight in entry["weight_set"][0]]
+            found[entry["bucket_id"]] = [round(weight * FULL_WEIGHT) for weight in entry["weight_set"][0]]
     return found

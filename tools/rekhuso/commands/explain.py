@@ -15,7 +15,7 @@ from ..cluster.sources import Source
 from ..cluster.view import ClusterView, view_of
 from ..files import JsonObject
 from ..output.json_output import put_json
-from ..program.map_forms import GROUP_PATTERN
+from ..program.map_forms import FULL_WEIGHT, GROUP_PATTERN
 from ..program.maps import (
     Program,
     altered,
@@ -69,7 +69,7 @@ class GroupStory:
     def placed(self, full: Iterable[int]) -> list[int | None]:
         """What the rule gives where some OSDs have their full reweight, whatever else the OSDs are."""
         devices = devices_in(self.value) | self.osds.keys()
-        weights = {**{osd: self.weight(osd) for osd in devices}, **dict.fromkeys(full, 65536)}
+        weights = {**{osd: self.weight(osd) for osd in devices}, **dict.fromkeys(full, FULL_WEIGHT)}
         osds = [osd_there(osd, True, weight) for osd, weight in sorted(weights.items())]
         value = altered(without_exceptions(self.value), osds=osds, pools=[self.pool])
         return up_sets(self.program, value, [self.group])[self.group].places
@@ -87,12 +87,12 @@ class GroupStory:
     def passed_over(self) -> list[int]:
         """The OSDs that the rule meets for this group and passes over as out, for a reweight of 0 or of less than 1."""
         devices = sorted(devices_in(self.value))
-        return self.met([osd for osd in devices if self.weight(osd) < 65536], self.placed([]))
+        return self.met([osd for osd in devices if self.weight(osd) < FULL_WEIGHT], self.placed([]))
 
     def passed_words(self, osd: int) -> str:
         """An OSD that was passed over, with its reweight where that is not 0."""
         weight = self.weight(osd)
-        return f"osd.{osd} (reweight {weight / 65536:.5f})" if weight else f"osd.{osd}"
+        return f"osd.{osd} (reweight {weight / FULL_WEIGHT:.5f})" if weight else f"osd.{osd}"
 
     def idle_explicit(self) -> str | None:
         """Why the explicit set does nothing; None where it stands, or where there is none."""
@@ -204,7 +204,7 @@ class GroupStory:
             "pool": {**self.pool, "name": named(names, "pools", self.pool["id"])},
             "rule": {**rule, "name": named(names, "rules", rule["id"])},
             "raw": self.sets["raw"].places,
-            "passed_over": [{"osd": osd, "reweight": self.weight(osd) / 65536} for osd in self.passed_over()],
+            "passed_over": [{"osd": osd, "reweight": self.weight(osd) / FULL_WEIGHT} for osd in self.passed_over()],
             "pg_upmap": explicit,
             "pg_upmap_items": pairs,
             "pg_upmap_primaries": self.named_parts(),

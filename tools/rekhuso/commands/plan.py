@@ -63,9 +63,10 @@ from ..plans.movement import PlaceBytes, place_bytes
 from ..plans.plan import Outcome, Wish, leave_alone, misplaced_in, outage_in, planned
 from ..plans.pool_choice import pools_on
 from ..plans.printed import Asked, Printed
-from ..plans.rounds import Live, MOST_MOVES
+from ..plans.rounds import Live
 from ..plans.steps import steps_by_pool
 from ..program.maps import Map, Program, altered
+from ..program.session import MOST_MOVES
 from ..running import doing, tell
 from ..values import SLOTS
 from .arguments import Arguments, Commands, add_files, putting, reading, rename, set_work, source_of

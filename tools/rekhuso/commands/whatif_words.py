@@ -19,12 +19,12 @@ from ..cluster.new_crush import NewCrush, PoolChange, crush_in
 from ..cluster.shadows import SIGN
 from ..faults import Fault, Misuse, Trouble
 from ..files import text_of
+from ..program.map_forms import FULL_WEIGHT
 from ..program.maps import Change, Map, entries_of
 from ..running import tell
 from ..values import SLOTS
 
 # The words that each make one command of all that they name, with the reweight that they give.
-FULL_WEIGHT = 65536
 REWEIGHTS = {"out": 0, "in": FULL_WEIGHT}
 # The words of which those that stand together are one command.
 TOGETHER = ("out", "in", "down", "up")
@@ -105,13 +105,13 @@ def reweight_in(word: str) -> int:
     weight = number_in(word)
     if not 0 <= weight <= 1:
         raise Misuse(f"argument --reweight: {word}: a reweight is a number from 0 to 1")
-    return int(weight * 65536)
+    return int(weight * FULL_WEIGHT)
 
 
 def weights_in(word: str) -> list[int]:
     """The weights that a word as 1,1,2.5 lists, in units of 1/65,536; else an error of use."""
     weights = [number_in(part) for part in word.split(",")]
-    if not all(1 / 65536 <= weight < 65536 for weight in weights):
+    if not all(1 / FULL_WEIGHT <= weight < 65536 for weight in weights):
         raise Misuse(f"argument --add-host: {word}: weights are written as 1,1,2.5, each above 0 and below 65,536")
     return list(map(weight_units, weights))
 

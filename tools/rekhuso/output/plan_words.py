@@ -9,8 +9,8 @@ from ..plans.all_pools import AllPools
 from ..plans.best_plan import TriedPlan
 from ..plans.json_forms import MovingParts, PlanParts, StayParts
 from ..plans.plan import Outcome
-from ..plans.rounds import MOST_MOVES
 from ..plans.shared_by import SharedBy
+from ..program.session import MOST_MOVES
 from ..words import counted, size_words, some
 from .fill_words import fill_words, osd_words, room_words, spread_words, use_words
 from .refusal_words import refusal_words

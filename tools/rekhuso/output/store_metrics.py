@@ -3,7 +3,8 @@
 from __future__ import annotations
 
 from ..program.store_state import StoreCopy, StoreState
-from ..program.stores import RUN_MOST, StoredJournal
+from ..program.monitor import RUN_MOST
+from ..program.stores import StoredJournal
 from .metrics import Metrics
 
 # What each metric is.

@@ -18,6 +18,7 @@ from ..cluster.cluster import Cluster
 from ..cluster.effects import weight_units
 from ..faults import Fault
 from ..files import InMemory, json_of, text_of
+from ..program.map_forms import FULL_WEIGHT
 from ..program.maps import entries_of
 from ..together import HEAD
 from ..values import SLOTS
@@ -213,7 +214,7 @@ class Settings:
         dump = cluster.osd_dump
         self.now: dict[Key, object] = {("weight", osd): own for osd, own in weights_in(cluster).items()}
         self.now.update({("out", osd): own["weight"] == 0 for osd, own in cluster.osds.items()})
-        self.now.update({("reweight", osd): round(own["weight"] * 65536) for osd, own in cluster.osds.items()})
+        self.now.update({("reweight", osd): round(own["weight"] * FULL_WEIGHT) for osd, own in cluster.osds.items()})
         self.now.update({("pg_upmap", entry["pgid"]): entry["osds"] for entry in entries_of(dump, "pg_upmap")})
         for entry in entries_of(dump, "pg_upmap_items"):
             pairs = [[pair["from"], pair["to"]] for pair in entry["mappings"]]

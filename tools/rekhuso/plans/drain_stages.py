@@ -12,7 +12,7 @@ from ..cluster.cluster import Cluster
 from ..cluster.effects import weight_units
 from ..cluster.reasons import reasons
 from ..faults import Fault
-from ..program.map_forms import EXCEPTIONS
+from ..program.map_forms import EXCEPTIONS, FULL_WEIGHT
 from ..program.maps import Exceptions, Program, entries_of, group_key
 from ..values import SLOTS
 from .hold import Hold, hold_of, sides_of_change
@@ -43,8 +43,8 @@ def weights_in(cluster: Cluster) -> dict[int, int]:
 
 def weight_text(units: int) -> str:
     """A weight as Ceph reads it: the fewest digits that give it again."""
-    texts = (f"{units / 65536:.{digits}f}" for digits in range(1, 12))
-    return next((text for text in texts if weight_units(float(text)) == units), f"{units / 65536:.12f}")
+    texts = (f"{units / FULL_WEIGHT:.{digits}f}" for digits in range(1, 12))
+    return next((text for text in texts if weight_units(float(text)) == units), f"{units / FULL_WEIGHT:.12f}")
 
 
 def low_weight(weights: Mapping[int, int], osds: Sequence[int]) -> str:
@@ -112,7 +112,7 @@ def back_change(cluster: Cluster, osds: Sequence[int]) -> list[str]:
     weights = weights_in(cluster)
     found = [f"ceph osd crush reweight osd.{osd} {weight_text(weights[osd])}" for osd in osds]
     return found + [
-        f"ceph osd reweight {osd} {weight_text(round(cluster.osds[osd]['weight'] * 65536))}" for osd in osds
+        f"ceph osd reweight {osd} {weight_text(round(cluster.osds[osd]['weight'] * FULL_WEIGHT))}" for osd in osds
     ]
 
 

@@ -16,6 +16,7 @@ from .. import together
 from ..cluster.connections import Connection
 from ..cluster.judge import Places
 from ..faults import Fault
+from ..program.map_forms import FULL_WEIGHT
 from ..together import FLAG, INTERRUPTED, Stop, Words, back_of, erasure_pools_of, goal_of, is_elsewhere
 from ..values import SLOTS
 from ..words import counted, some
@@ -111,7 +112,7 @@ class PartGiver:
 
     def has_change(self, now: together.State) -> bool:
         """Whether OSDs have what they are to have."""
-        has = {own["osd"]: round(own["weight"] * 65536) for own in now.dump["osds"]}
+        has = {own["osd"]: round(own["weight"] * FULL_WEIGHT) for own in now.dump["osds"]}
         return now.crush == self.aim.crush and all(has.get(osd) == own for osd, own in self.aim.reweights.items())
 
     def is_as_it_was(self, now: together.State) -> bool:

@@ -22,6 +22,7 @@ from ..cluster.unrest import unrest_of
 from ..cluster.view import ClusterView
 from ..faults import Fault
 from ..program.maps import Program, group_key
+from ..program.session import MOST_MOVES
 from ..values import SLOTS
 from .again import after, moved_data, steps_between
 from .best_plan import BesideWeights, Chosen, best_of
@@ -44,7 +45,7 @@ from .pair_plans import PairPlanner
 from .parts import even_parts, first_steps, measure_of_steps, order_of_steps, ordered_parts
 from .pool_plans import PoolPlan, pool_plans
 from .rooms import DATA_FIRST, FITTED, Rooms, SCHEME_FIRST
-from .rounds import Live, MOST_MOVES, Planner, SMALL_CLUSTER, left_out
+from .rounds import Live, Planner, SMALL_CLUSTER, left_out
 from .spare import spared
 from .step_order import limited, parts_in_order
 from .steps import PlanStep, appended_pairs, batches, steps_by_pool, steps_of

@@ -21,6 +21,7 @@ from ..cluster.sources import Source
 from ..cluster.view import view_of_cluster
 from ..faults import Changed, Fault, Wait
 from ..files import JsonObject
+from ..program.map_forms import FULL_WEIGHT
 from ..together import FLAG, Stop, Words
 from ..values import SLOTS
 from ..words import counted
@@ -81,7 +82,7 @@ def no_check() -> None:
 def words_of_change(part: PlanPart) -> list[Words]:
     """The commands of a part that change OSDs, as a monitor takes them."""
     found: list[Words] = [
-        {"prefix": "osd crush reweight", "name": f"osd.{osd}", "weight": weight / 65536}
+        {"prefix": "osd crush reweight", "name": f"osd.{osd}", "weight": weight / FULL_WEIGHT}
         for osd, weight in part.weights.items()
     ]
     found += [{"prefix": "osd out", "ids": [f"osd.{osd}" for osd in part.out]}] if part.out else []
@@ -90,16 +91,17 @@ def words_of_change(part: PlanPart) -> list[Words]:
 
 def words_of_reweight(osd: int, units: int) -> Words:
     """The command that gives an OSD a reweight."""
-    return {"prefix": "osd reweight", "id": osd, "weight": units / 65536}
+    return {"prefix": "osd reweight", "id": osd, "weight": units / FULL_WEIGHT}
 
 
 def words_back(part: PlanPart, cluster: Cluster) -> list[Words]:
     """The commands that give the OSDs of a part what they have now."""
     weights, osds = weights_in(cluster), [*part.out, *part.reweights]
     found: list[Words] = [
-        {"prefix": "osd crush reweight", "name": f"osd.{osd}", "weight": weights[osd] / 65536} for osd in part.weights
+        {"prefix": "osd crush reweight", "name": f"osd.{osd}", "weight": weights[osd] / FULL_WEIGHT}
+        for osd in part.weights
     ]
-    return found + [words_of_reweight(osd, round(cluster.osds[osd]["weight"] * 65536)) for osd in osds]
+    return found + [words_of_reweight(osd, round(cluster.osds[osd]["weight"] * FULL_WEIGHT)) for osd in osds]
 
 
 class PlanGiver:

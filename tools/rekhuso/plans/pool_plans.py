@@ -10,11 +10,12 @@ from fractions import Fraction
 from ..faults import Fault
 from ..program.answers import balance_line
 from ..program.maps import Pool
+from ..program.session import MOST_MOVES
 from ..values import SLOTS
 from .loads import Laid, STEP_PARTS, counted_above, with_closed
 from .move_order import Deviations, moves_within
 from .pair_plans import PairPlanner
-from .rounds import Live, MOST_MOVES
+from .rounds import Live
 from .steps import appended_pairs
 
 # Half of what two OSDs must differ by for a move of such a plan, in 256ths of a group.

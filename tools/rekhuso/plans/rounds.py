@@ -21,7 +21,7 @@ from ..cluster.pool_data import Data
 from ..cluster.shares import Shares
 from ..faults import Refused
 from ..program.maps import Exceptions, Map, Pool, entries_of, rule_for
-from ..program.session import Session
+from ..program.session import MOST_MOVES, Session
 from .at_rest import AtRest
 from .shared_by import SharedBy
 from .loads import (
@@ -39,8 +39,6 @@ from .loads import (
 from .pairs import settled
 from .steps import changed_groups, in_old_order
 
-# The most moves of one plan of the program.
-MOST_MOVES = 1024
 # How many rounds there are at most, how many moves are tried from the fullest OSD, and by which ratio it is to get less
 # full by moves to OSDs that differ by little.
 MOST_ROUNDS, TRIED, LOWER = 12, 64, 1.02

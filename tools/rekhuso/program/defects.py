@@ -7,6 +7,7 @@ from typing import Any, Iterable, cast
 
 from .map_forms import (
     EXCEPTIONS,
+    FULL_WEIGHT,
     GROUPS,
     NEW_SETS,
     OSDS,
@@ -174,7 +175,7 @@ class ChangeTest:
             for at, entry in enumerate(self.change.get(key, [])):
                 for osd in sorted(set(osds_named(key, entry)) - self.there):
                     yield Defect(21, f"{key}[{at}]", f"osd.{osd} does not exist")
-                if key == "weight" and entry[1] > 65536:
+                if key == "weight" and entry[1] > FULL_WEIGHT:
                     yield Defect(22, f"weight[{at}][1]", f"{entry[1]:,}, at most 65,536")
 
     def pool_places(self) -> Defects:

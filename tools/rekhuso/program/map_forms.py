@@ -42,9 +42,11 @@ TRIES = {"set_choose_tries": 1, "set_chooseleaf_tries": 1}
 # The steps that set from which number on a leaf is sought, which stand in maps under `--stock` alone.
 LEAF_WORDS = {"set_chooseleaf_vary_r": 1, "set_chooseleaf_stable": 1}
 SETTING = {**TRIES, **LEAF_WORDS}
+# The weight of 1, of an item or an OSD: the whole reweight; and the lowest id of a bucket.
+FULL_WEIGHT, LOWEST_BUCKET = 65536, -65536
 # The ranges of the numbers of a step; of one that chooses, those of its count and its type.
 RANGES: dict[str, list[tuple[int, int]]] = {
-    "take": [(-65536, -1)],
+    "take": [(LOWEST_BUCKET, -1)],
     "emit": [],
     **{op: [(1, 200)] for op in TRIES},
     "set_chooseleaf_vary_r": [(0, 4)],
@@ -233,11 +235,11 @@ def limits_of(is_stock: bool) -> Limits:
 def bucket(is_stock: bool) -> Form:
     """A bucket; of kind straw2 under `--stock` alone, where it may have more items."""
     kinds, limits = ("uniform", "list", "tree") + (("straw2",) if is_stock else ()), limits_of(is_stock)
-    item = number_between(-65536, limits.osds - 1)
+    item = number_between(LOWEST_BUCKET, limits.osds - 1)
     plain, straw2 = (
         object_of(
             {
-                "id": number_between(-65536, -1),
+                "id": number_between(LOWEST_BUCKET, -1),
                 "type": number_between(1, 15),
                 "kind": one_of(*kinds),
                 "items": list_of(tuple_of(item, number_between(1, 2**32 - 1)), 1, most),
@@ -300,7 +302,7 @@ def osd_id(limits: Limits) -> Form:
 
 def osd(limits: Limits) -> Form:
     """An OSD."""
-    return object_of({"id": osd_id(limits), "exists": flag, "up": flag, "weight": number_between(0, 65536)})
+    return object_of({"id": osd_id(limits), "exists": flag, "up": flag, "weight": number_between(0, FULL_WEIGHT)})
 
 
 def explicit_sets(limits: Limits) -> Form:

@@ -62,6 +62,8 @@ NO_PROGRAM = (errno.ENOENT, errno.EACCES, errno.ENOEXEC, errno.EISDIR)
 # What the first page of a store's file has where the store says how many changes a start leaves; and the most that a
 # start may be told to leave: where the store says nothing, a session of the tools cuts none off.
 ABOUT, PAGE, MOST_KEPT = b"CREATE TABLE store (", 65536, "1000000"
+# How many changes a run takes at most.
+RUN_MOST = 65536
 
 
 def kept_in(store: str) -> list[str]:
@@ -132,7 +134,7 @@ class Monitor(Session):
         self,
         value: Map | str | os.PathLike[str] | None = None,
         program: Program = None,
-        journal: int = 65536,
+        journal: int = RUN_MOST,
         sessions: int = 1,
         timeout: float | None = None,
         stock: bool | None = None,
@@ -288,6 +290,9 @@ class Monitor(Session):
     def close(self) -> None:
         """Ends the sessions and the program: it ends once it has answered what it was asked. A second call does
         nothing.
+
+        >>> monitor.close()
+        >>> monitor.close()
         """
         self._is_closed = True
         for session in self.sessions:

@@ -34,8 +34,8 @@ from .process import Patience
 if TYPE_CHECKING:
     from typing_extensions import Unpack
 
-# The number of the refusal of a line that the program does not have.
-NO_LINE = 33
+# The number of the refusal of a line that the program does not have, and the most moves of one plan of the program.
+NO_LINE, MOST_MOVES = 33, 1024
 
 
 def check_parts(name: str, parts: Mapping[str, object]) -> None:
@@ -306,7 +306,9 @@ class Session:
         _, epoch, _, evals = self.one(f"apply {written(parts)}").split(" ")
         return Made(int(epoch), int(evals))
 
-    def balance(self, pool: int, most: int = 1024, apart: int = 256, carried: Mapping[int, int] | None = None) -> Moved:
+    def balance(
+        self, pool: int, most: int = MOST_MOVES, apart: int = 256, carried: Mapping[int, int] | None = None
+    ) -> Moved:
         """Plans moves of groups of a pool, at most so many, and commits them. In 256ths of a group: by how much two
         OSDs must differ for a move between them, and how much an OSD counts as having beside its groups of the pool.
         A map under `stock` alone takes either.

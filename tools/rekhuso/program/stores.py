@@ -26,7 +26,7 @@ from ..running import doing
 from ..values import SLOTS
 from ..words import counted
 from .maps import Program
-from .monitor import Monitor
+from .monitor import Monitor, RUN_MOST
 from .page_sums import wrong_page
 from .process import temporary
 
@@ -57,8 +57,6 @@ PROFILES = ("plain", "stock")
 NOTE, NOTED_BY = re.compile("life=([+-]?[0-9]+),made=([0-9]+)(?:,by=([^ ]*))?"), "l"
 # What only the disk of the copy says, as nothing else is written.
 FULL = (errno.ENOSPC, errno.EDQUOT)
-# How many changes a run of the program takes.
-RUN_MOST = 65536
 
 # What is told of a file that is not read, as the program tells it.
 MISSING = "there is no store at this path"

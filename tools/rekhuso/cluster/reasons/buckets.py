@@ -5,7 +5,7 @@ from __future__ import annotations
 from collections import Counter
 from itertools import chain, combinations
 
-from ...program.map_forms import ITEMS
+from ...program.map_forms import ITEMS, LOWEST_BUCKET
 from ...words import listed, some
 from ..cluster import Cluster
 from .counts import buckets_reason, doubles, range_reason
@@ -39,7 +39,7 @@ def bucket_reasons(cluster: Cluster) -> list[Against]:
             found.append(Against("bucket-hash", f"bucket {name} hashes by {bucket['hash']}, not by rjenkins1"))
         if not bucket["items"]:
             found.append(empty_reason(cluster, number))
-        found += range_reason("bucket-id", f"bucket {name} has the id {number}", number, -65536, -1)
+        found += range_reason("bucket-id", f"bucket {name} has the id {number}", number, LOWEST_BUCKET, -1)
         kind = bucket["type_id"]
         found += range_reason("bucket-type", f"bucket {name} has the type {kind}", kind, 1, 15)
         found += size_reasons(cluster, number) + weight_reasons(cluster, number) + item_reasons(cluster, number)

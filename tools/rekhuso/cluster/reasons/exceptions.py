@@ -5,6 +5,7 @@ from __future__ import annotations
 from collections import Counter
 
 from ...files import JsonObject
+from ...program.map_forms import FULL_WEIGHT
 from ...program.maps import entries_of
 from ...words import some
 from ..cluster import Cluster
@@ -80,7 +81,9 @@ def kept_reasons(cluster: Cluster) -> list[Against]:
     kept = {osd: weight for osd, weight in cluster.gone.items() if weight}
     told = "which does not exist and has kept the reweight"
     return [
-        Against("exception-kept", f"the {word} of {entry['pgid']} {verb} osd.{osd}, {told} {kept[osd] / 65536:.5f}")
+        Against(
+            "exception-kept", f"the {word} of {entry['pgid']} {verb} osd.{osd}, {told} {kept[osd] / FULL_WEIGHT:.5f}"
+        )
         for key, word, verb in (SETS, PAIRS)
         for entry in entries_of(cluster.osd_dump, key)
         if cluster.is_group(entry["pgid"])
