@@ -28,6 +28,7 @@ OPTIONS_OF_OTHERS = {
     "--jobs",
     "--list-axioms",
     "--map",
+    "--judge",
     "--long",
     "--only",
     "--reweight-item",

@@ -23,6 +23,7 @@ IsJudgedAt parts m script j =
     × IsVerdict j.verdict (judged (profile_of parts.buckets parts.rules) m (said_in script))
     × (j.after.items ≡ all_counts j.verdict.map.map)
 
+-- the same for parts that come in
 abbrev pub IsJudged : Result MapParts StaysOut → List ℕ → JudgedScript → Type 0
 IsJudged (Ok parts) script j = (m : ClusterMap) × IsStated parts m × IsJudgedAt parts m script j
 IsJudged (Err why) script j = ⊥

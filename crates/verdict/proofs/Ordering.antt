@@ -56,13 +56,15 @@ exceptions_alone profile explicit items c ordered same_explicit same_items = λ 
   items = same_items i;
 }
 
--- no exceptions, one that comes, or one that goes, are in order as they stand
+-- no exceptions are in order as they stand
 none_stay : {E : Type 0} (c : ExceptionChanges Pg (Exception E)) → OrdersExceptions no_exceptions c → c ≡ no_exceptions
 none_stay c orders = exceptions_same no_exceptions c (none_sorted pg_key c.gone orders.gone) (none_sorted key_of c.come orders.come)
 
+-- so is one that comes
 comes_stays : {E : Type 0} (e : Exception E) (c : ExceptionChanges Pg (Exception E)) → OrdersExceptions (comes e) c → c ≡ comes e
 comes_stays e c orders = exceptions_same (comes e) c (none_sorted pg_key c.gone orders.gone) (one_sorted key_of e c.come orders.come)
 
+-- so is one that goes
 goes_stays : {E : Type 0} (pg : Pg) (c : ExceptionChanges Pg (Exception E)) → OrdersExceptions (goes pg) c → c ≡ goes pg
 goes_stays pg c orders = exceptions_same (goes pg) c (one_sorted pg_key pg c.gone orders.gone) (none_sorted key_of c.come orders.come)
 

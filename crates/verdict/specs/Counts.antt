@@ -6,10 +6,11 @@ use Rattle.mapparts.specs.declared.parts.OsdPart.{OsdPart}
 use Rattle.osdmap.specs.Maps.{ClusterMap}
 use Rattle.pgtable.specs.Index.{count_of}
 
--- the parts of a map with all OSDs up that exist
+-- an OSD that is up, where it exists
 abbrev pub up_part : OsdPart → OsdPart
 up_part osd = record osd { up = osd.exists }
 
+-- the parts of a map whose OSDs are all up
 abbrev pub all_up : MapParts → MapParts
 all_up parts = record parts { osds = map up_part parts.osds }
 

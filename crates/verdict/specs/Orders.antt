@@ -15,10 +15,11 @@ group_of_order (DropPlaces pg) = pg
 group_of_order (SetPairs items) = items.pg
 group_of_order (DropPairs pg) = pg
 
--- one exception comes, or goes
+-- one exception comes
 abbrev pub comes : {G E : Type 0} → E → ExceptionChanges G E
 comes exception = record { gone = []; come = exception ∷ [] }
 
+-- the exception of one group goes
 abbrev pub goes : {G E : Type 0} → G → ExceptionChanges G E
 goes group = record { gone = group ∷ []; come = [] }
 

@@ -81,7 +81,8 @@ order_in line = elim (rest_behind (codes "ceph osd pg-upmap-items ") line) [
     | None ↦ elim (rest_behind (codes "ceph osd pg-upmap ") line) [
       | Some text ↦ option_and_then places_order (stated_in text)
       | None ↦
-          option_and_then (λ text. option_map DropPlaces (group_in text)) (rest_behind (codes "ceph osd rm-pg-upmap ") line)
+          option_and_then (λ text. option_map DropPlaces (group_in text))
+          (rest_behind (codes "ceph osd rm-pg-upmap ") line)
     ]
   ]
 ]
