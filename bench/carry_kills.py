@@ -41,6 +41,8 @@ POOLS = {"vm": 64, "files": 32}
 # how long a moment is waited for. The longest time between two kills.
 LIMIT, SOON, BETWEEN = 420.0, 30.0, 5.0
 KINDS = ("carrier", "program", "manager", "monitor")
+# Which share of the kills of a carrier come amid commands, where they come amid no chunks.
+AMID_COMMANDS = 0.7
 # What is killed amid the chunks of a plan.
 AMID_CHUNKS = {"carrier", "monitor"}
 # A carrier whose plans are kept in many chunks.
@@ -178,10 +180,10 @@ class Killing(Loaded):
 
     def moment(self, kind: str, number: int, found: Round) -> None:
         """Waits for the moment of a kill: the first of a round, of the carrier or the monitor, comes amid chunks; of
-        others of the carrier each second comes amid commands."""
+        others of the carrier most come amid commands."""
         if number == 0 and kind in AMID_CHUNKS:
             found.chunks += self.soon(self.is_amid_chunks)
-        elif kind == "carrier" and number % 2:
+        elif kind == "carrier" and self.numbers.random() < AMID_COMMANDS:
             found.amid += self.soon(self.is_giving)
         else:
             time.sleep(self.numbers.uniform(0.2, BETWEEN))

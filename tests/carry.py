@@ -76,6 +76,22 @@ for line in sys.stdin.buffer:
 own.stdin.close()
 sys.exit(own.wait())
 """
+# A program that dies at its first change.
+DYING = """#!/usr/bin/env python3
+import os, subprocess, sys
+PROGRAM = {program!r}
+if "--version" in sys.argv:
+    os.execv(PROGRAM, [PROGRAM, *sys.argv[1:]])
+own = subprocess.Popen([PROGRAM, *sys.argv[1:]], stdin=subprocess.PIPE)
+for line in sys.stdin.buffer:
+    if line.startswith(b"change"):
+        own.kill()
+        sys.exit(9)
+    own.stdin.write(line)
+    own.stdin.flush()
+own.stdin.close()
+sys.exit(own.wait())
+"""
 NO_LIMITS = CarryLimits(None, None, None)
 OWN_PLANS = CarryWish(False, "groups", False, NO_LIMITS)
 
@@ -353,6 +369,20 @@ class Programs(CarryCase):
                     self.assertEqual(kept_plan(Keys(self.world)) is not None, is_amid)
             carrier.engine = self.engine()
             self.assertEqual(self.looks(carrier, "given", 2).status, 10)
+
+    def test_program_amid(self) -> None:
+        """A program that dies as it judges commands is waited for too, and the plan is kept: nothing is known of the
+        cluster by that."""
+        carrier = self.carrier()
+        self.assertEqual(carrier.look().code, "given")
+        self.world.work()
+        plan = kept_plan(Keys(self.world))
+        carrier.engine = self.engine(self.put(DYING.format(program=str(self.program))))
+        self.waits(carrier, "program")
+        self.assertEqual(kept_plan(Keys(self.world)), plan)
+        carrier.engine = self.engine()
+        self.looks(carrier, "quiet")
+        self.assertEqual([line for line, count in Counter(self.world.given).items() if count > 1], [])
 
     def test_liar(self) -> None:
         """A plan that the program judges to be false stops the carrier, with status 70, until a person says so; another
