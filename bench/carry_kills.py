@@ -191,9 +191,11 @@ class Killing(Loaded):
     # Rounds
 
     def audit(self, begin: int) -> Iterator[tuple[str, str]]:
-        """The commands on pairs that the monitors have taken, with who gave them, behind so many lines of their log."""
+        """The commands on pairs that the monitors have taken, with who gave them, behind so many lines of their log. A
+        monitor that was killed writes its last lines once more, with their times and their numbers.
+        """
         lines = (self.cluster.folder / "cluster.log").read_text(errors="replace").splitlines()
-        for line in lines[begin:]:
+        for line in dict.fromkeys(lines[begin:]):
             own = AUDIT.search(line)
             if own is not None:
                 told = json.loads(own["what"])
@@ -248,9 +250,11 @@ class Killing(Loaded):
         """Says what is amiss at the end of a round."""
         pairs = pairs_in(self.asker.ask("osd dump"))
         has = {f"pg-upmap-items {pg} {' '.join(str(osd) for pair in own for osd in pair)}" for pg, own in pairs.items()}
-        taken = [line for line, _ in self.audit(log)]
-        found.given, most = len(taken), found.most
-        found.twice = [line for line, count in Counter(taken).items() if count > 1]
+        who: dict[str, list[str]] = {}
+        for line, client in self.audit(log):
+            who.setdefault(line, []).append(client)
+        found.given, most = sum(map(len, who.values())), found.most
+        found.twice = [f"{line} by {' and '.join(clients)}" for line, clients in who.items() if len(clients) > 1]
         found.amiss += [f"other pairs than foretold: {sorted(has ^ wanted)[:4]}"] if has != wanted else []
         found.amiss += [f"given twice: {found.twice[:3]}"] if found.twice else []
         found.amiss += [f"{100 * most:.1f} % misplaced, and at most {100 * MOST:g} % may be"] if most > MOST else []
