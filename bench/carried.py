@@ -103,10 +103,13 @@ class Asker:
     """Asks a cluster by librados, in a process of the system's Python."""
 
     def __init__(self, cluster: LiveCluster, objects: Mapping[str, int]) -> None:
-        words = [str(system_python()), "-c", WORKER, str(cluster.conf), json.dumps(objects)]
-        self.lock, self.process = threading.Lock(), subprocess.Popen(
-            words, stdin=subprocess.PIPE, stdout=subprocess.PIPE, text=True
-        )
+        self.lock, self.cluster = threading.Lock(), cluster
+        self.process = self.begun(objects)
+
+    def begun(self, objects: Mapping[str, int]) -> subprocess.Popen[str]:
+        """The process, which first puts objects into pools."""
+        words = [str(system_python()), "-c", WORKER, str(self.cluster.conf), json.dumps(objects)]
+        return subprocess.Popen(words, stdin=subprocess.PIPE, stdout=subprocess.PIPE, text=True)
 
     def ask(self, prefix: str, to_manager: bool = False, **words: object) -> Any:
         """What is answered, as JSON where it is; a failure where it is refused."""
@@ -120,6 +123,8 @@ class Asker:
     def reply(self, prefix: str, to_manager: bool = False, **words: object) -> tuple[int, str, str]:
         """The status, the answer and the words."""
         with self.lock:
+            if self.process.poll() is not None:  # librados may crash as a monitor is killed.
+                self.process = self.begun({})
             assert self.process.stdin and self.process.stdout
             asked: dict[str, object] = {"prefix": prefix, **words, **({"to_manager": True} if to_manager else {})}
             self.process.stdin.write(json.dumps(asked) + "\n")
@@ -233,7 +238,7 @@ class Looker(threading.Thread):
     def run(self) -> None:
         """Looks until it is ended. While monitor or manager are away nothing is told."""
         while not self.ended.wait(0.2):
-            with contextlib.suppress(ValueError, KeyError, TypeError):
+            with contextlib.suppress(ValueError, KeyError, TypeError, OSError):
                 self.look()
 
     def look(self) -> None:

@@ -54,8 +54,9 @@ from rekhuso.command_line import main
 kept.CHUNK = int(sys.argv.pop(1))
 sys.exit(main())
 """
-COLUMNS = ["round", "kills", "amid chunks", "amid commands", "foretold", "given", "twice", "most misplaced, %"]
-COLUMNS += ["seconds", "it ends"]
+COLUMNS = ["round", "kills", "crashed", "amid chunks", "amid commands", "foretold", "given", "sent again", "twice"]
+COLUMNS += ["most misplaced, %", "seconds", "it ends"]
+TOLD = re.compile(r"ceph osd (pg-upmap-items [0-9a-f. ]+): 0 ")
 AUDIT = re.compile(
     r"""from='(?P<who>[^']*)' .*cmd='\[(?P<what>\{"prefix": "osd (?:rm-)?pg-upmap-items".*\})\]': finished"""
 )
@@ -63,14 +64,17 @@ AUDIT = re.compile(
 
 @dataclass
 class Round:
-    """What came of a round: what was killed; how many commands were foretold, given and taken twice; how much was
+    """What came of a round: what was killed; how often a carrier crashed by itself; how many kills came amid chunks and
+    amid commands; how many commands were foretold, given, sent again by librados and given twice; how much was
     misplaced at most; for how many seconds it went on; and what is amiss."""
 
     kills: Counter[str] = field(default_factory=Counter)
+    crashed: int = 0
     chunks: int = 0
     amid: int = 0
     foretold: int = 0
     given: int = 0
+    resent: int = 0
     twice: list[str] = field(default_factory=list)
     most: float = 0.0
     seconds: float = 0.0
@@ -79,7 +83,17 @@ class Round:
     def cells(self) -> list[Any]:
         """The cells of its row."""
         kills = ", ".join(f"{count} {kind}" for kind, count in sorted(self.kills.items()))
-        own = [kills, self.chunks, self.amid, self.foretold, self.given, len(self.twice), f"{100 * self.most:.1f}"]
+        own = [
+            kills,
+            self.crashed,
+            self.chunks,
+            self.amid,
+            self.foretold,
+            self.given,
+            self.resent,
+            len(self.twice),
+            f"{100 * self.most:.1f}",
+        ]
         return [*own, f"{self.seconds:.0f}", "; ".join(self.amiss) or "as foretold"]
 
 
@@ -125,7 +139,7 @@ class Killing(Loaded):
 
     def state(self) -> str:
         """The state of the carrier; nothing where it is not told."""
-        with contextlib.suppress(ValueError, KeyError, TypeError):
+        with contextlib.suppress(ValueError, KeyError, TypeError, OSError):
             return str(self.asker.ask("config-key get", key="rekhuso/state")["state"])
         return ""
 
@@ -210,7 +224,7 @@ class Killing(Loaded):
         wanted = self.foretold()
         found.foretold = len(wanted)
         log = len((self.cluster.folder / "cluster.log").read_text(errors="replace").splitlines())
-        looker = Looker(self)
+        said, looker = len(self.log.read_text()) if self.log.exists() else 0, Looker(self)
         looker.start()
         self.begin()
         # The first one comes amid chunks, as long as one is left that can.
@@ -224,37 +238,45 @@ class Killing(Loaded):
                     kinds.pop(0)
                 elif self.state() == "quiet":
                     break
-                if self.process is not None and self.process.poll() is not None:
-                    self.begin()
+                self.go_on(found)
             self.finish(found)
         finally:
             self.end(signal.SIGTERM)
             found.most = looker.end()
-        self.judge(found, wanted, log)
+        self.judge(found, wanted, log, said)
         found.seconds = time.monotonic() - begun
         return found
+
+    def go_on(self, found: Round) -> None:
+        """Begins the carrier anew where it has ended by itself, as its unit does; it may have crashed in librados."""
+        status = None if self.process is None else self.process.poll()
+        if status is not None:
+            found.crashed += status < 0
+            found.amiss += [f"a carrier has ended with {status}"] if status >= 0 else []
+            self.begin()
 
     def finish(self, found: Round) -> None:
         """Waits until all is quiet."""
         end = time.monotonic() + LIMIT
         while time.monotonic() < end:
-            if self.process is not None and self.process.poll() is not None:
-                found.amiss.append(f"the carrier has ended with {self.process.poll()}")
-                return
+            self.go_on(found)
             if self.state() == "quiet" and self.is_clean():
                 return
             time.sleep(0.5)
         found.amiss.append(f"not quiet within {LIMIT:.0f} s: {self.log.read_text()[-300:]}")
 
-    def judge(self, found: Round, wanted: set[str], log: int) -> None:
-        """Says what is amiss at the end of a round."""
+    def judge(self, found: Round, wanted: set[str], log: int, said: int) -> None:
+        """Says what is amiss at the end of a round, which began behind so many lines of the monitors' log and so many
+        characters of that of carriers. A command was given twice that two carriers sent, or one of them told twice.
+        librados sends a command once more by itself where its connection breaks before the answer.
+        """
         pairs = pairs_in(self.asker.ask("osd dump"))
         has = {f"pg-upmap-items {pg} {' '.join(str(osd) for pair in own for osd in pair)}" for pg, own in pairs.items()}
-        who: dict[str, list[str]] = {}
-        for line, client in self.audit(log):
-            who.setdefault(line, []).append(client)
-        found.given, most = sum(map(len, who.values())), found.most
-        found.twice = [f"{line} by {' and '.join(clients)}" for line, clients in who.items() if len(clients) > 1]
+        taken, most = Counter(self.audit(log)), found.most
+        found.given, found.resent = len(taken), sum(count > 1 for count in taken.values())
+        clients = Counter(line for line, _ in taken)
+        told = Counter(TOLD.findall(self.log.read_text()[said:]))
+        found.twice = [line for line in wanted if clients[line] > 1 or told[line] > 1]
         found.amiss += [f"other pairs than foretold: {sorted(has ^ wanted)[:4]}"] if has != wanted else []
         found.amiss += [f"given twice: {found.twice[:3]}"] if found.twice else []
         found.amiss += [f"{100 * most:.1f} % misplaced, and at most {100 * MOST:g} % may be"] if most > MOST else []

@@ -264,6 +264,8 @@ class Waits(CarryCase):
             ("misplaced", lambda: world.ratios.update(misplaced_ratio=0.06), world.ratios.clear),
             ("load", lambda: world.ratios.update(read_op_per_sec=90, write_op_per_sec=20), world.ratios.clear),
             ("balancer", lambda: world.balancer.update(active=True), lambda: world.balancer.update(active=False)),
+            # What a monitor tells that has just begun.
+            ("unknown", lambda: world.untold.add("pgmap"), world.untold.clear),
         ]
         for code, begins, ends in rows:
             with self.subTest(code=code):
