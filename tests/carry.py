@@ -14,6 +14,7 @@ import random
 import shlex
 import signal
 import subprocess
+import sys
 import tempfile
 import threading
 import time
@@ -44,6 +45,10 @@ from tests.live_cluster import LiveCluster, has_daemons, system_python
 from tests.schemas import faults_of
 from tests.tool_cases import AS_MONITOR, ToolCase
 
+sys.path.append(str(TOP / "bench"))
+
+import carry_kills  # noqa: E402
+
 # How many looks a plan takes at most.
 LOOKS = 60
 # A program that lies: each count behind a change is one more.
@@ -71,6 +76,22 @@ for line in sys.stdin.buffer:
 own.stdin.close()
 sys.exit(own.wait())
 """
+# A program that dies at its first change.
+DYING = """#!/usr/bin/env python3
+import os, subprocess, sys
+PROGRAM = {program!r}
+if "--version" in sys.argv:
+    os.execv(PROGRAM, [PROGRAM, *sys.argv[1:]])
+own = subprocess.Popen([PROGRAM, *sys.argv[1:]], stdin=subprocess.PIPE)
+for line in sys.stdin.buffer:
+    if line.startswith(b"change"):
+        own.kill()
+        sys.exit(9)
+    own.stdin.write(line)
+    own.stdin.flush()
+own.stdin.close()
+sys.exit(own.wait())
+"""
 NO_LIMITS = CarryLimits(None, None, None)
 OWN_PLANS = CarryWish(False, "groups", False, NO_LIMITS)
 
@@ -83,6 +104,9 @@ class SimpleEngine:
 
     def check(self, snapshot: Snapshot, files: Mapping[str, str]) -> None:
         """Finds nothing against a cluster."""
+
+    def rest(self) -> None:
+        """Has nothing open."""
 
     def left(self, snapshot: Snapshot) -> list[str]:
         """The commands that the cluster has not."""
@@ -123,7 +147,10 @@ class CarryCase(Case):
         self, program: "pathlib.Path | None" = None, seconds: float = 300, folder: str | None = None
     ) -> CarryEngine:
         """What judges, by the program."""
-        return CarryEngine(EngineWish(program or self.program, folder, PartWords(None, 2, None), "groups", seconds))
+        wish = EngineWish(program or self.program, folder, PartWords(None, 2, None), "groups", seconds)
+        found = CarryEngine(wish)
+        self.addCleanup(found.rest)
+        return found
 
     def carrier(self, engine: Engine | None = None, wish: CarryWish = OWN_PLANS) -> Carrier:
         """A carrier that has the lease."""
@@ -237,6 +264,8 @@ class Waits(CarryCase):
             ("misplaced", lambda: world.ratios.update(misplaced_ratio=0.06), world.ratios.clear),
             ("load", lambda: world.ratios.update(read_op_per_sec=90, write_op_per_sec=20), world.ratios.clear),
             ("balancer", lambda: world.balancer.update(active=True), lambda: world.balancer.update(active=False)),
+            # What a monitor tells that has just begun.
+            ("unknown", lambda: world.untold.add("pgmap"), world.untold.clear),
         ]
         for code, begins, ends in rows:
             with self.subTest(code=code):
@@ -342,6 +371,20 @@ class Programs(CarryCase):
                     self.assertEqual(kept_plan(Keys(self.world)) is not None, is_amid)
             carrier.engine = self.engine()
             self.assertEqual(self.looks(carrier, "given", 2).status, 10)
+
+    def test_program_amid(self) -> None:
+        """A program that dies as it judges commands is waited for too, and the plan is kept: nothing is known of the
+        cluster by that."""
+        carrier = self.carrier()
+        self.assertEqual(carrier.look().code, "given")
+        self.world.work()
+        plan = kept_plan(Keys(self.world))
+        carrier.engine = self.engine(self.put(DYING.format(program=str(self.program))))
+        self.waits(carrier, "program")
+        self.assertEqual(kept_plan(Keys(self.world)), plan)
+        carrier.engine = self.engine()
+        self.looks(carrier, "quiet")
+        self.assertEqual([line for line, count in Counter(self.world.given).items() if count > 1], [])
 
     def test_liar(self) -> None:
         """A plan that the program judges to be false stops the carrier, with status 70, until a person says so; another
@@ -507,13 +550,13 @@ class Kills(CarryCase):
     """A carrier that is killed, at any of its questions, and another that comes after it."""
 
     def dead(self) -> None:
-        """Has the holder of the lease be gone: another process of its number has begun since."""
+        """Has the holder of the lease, and of the lock of givers, be gone: another process of its number has begun
+        since."""
         text = self.world.keys.get("rekhuso/lease")
         if text is not None:
             self.world.keys["rekhuso/lease"] = json.dumps(dict(json.loads(text), began="0"))
-        # The lock of givers ends by itself after some time.
         for key in [key for key in self.world.keys if key.startswith("rekhuso/giver/")]:
-            del self.world.keys[key]
+            self.world.keys[key] = json.dumps(dict(json.loads(self.world.keys[key]), began="0"))
 
     def test_kills(self) -> None:
         """Killed at 30 moments, also amid commands and keys, and carried on: the plan ends as foretold, and no command
@@ -696,44 +739,20 @@ class LiveCarrying(ToolCase):
         found = [line.partition(" ceph osd ")[2].partition(": ") for line in self.log.splitlines()]
         return [line for line, _, told in found if told.startswith("0 ")]
 
-    def kill_some(self, cluster: LiveCluster, carrier: subprocess.Popen[bytes], what: str) -> subprocess.Popen[bytes]:
-        """Kills the carrier, the program that it runs, the manager or the monitor, and has the other go on; the carrier
-        that is then at work."""
-        if what == "carrier":
-            carrier.kill()
-            carrier.wait()
-            return self.begun(cluster)
-        if what == "program":
-            found = pathlib.Path(f"/proc/{carrier.pid}/task/{carrier.pid}/children").read_text().split()
-            for process in found:
-                with contextlib.suppress(ProcessLookupError):
-                    os.kill(int(process), signal.SIGKILL)
-            return carrier
-        cluster.kill({"manager": "mgr.x", "monitor": "mon.a"}[what])
-        cluster.start(*{"manager": ("mgr", "x"), "monitor": ("mon", "a")}[what])
-        return carrier
-
     def test_kills(self) -> None:
-        """Carrier, program, manager and monitor are killed at moments by chance: in the end the cluster has what the
-        plan foretold, and no command was taken twice."""
-        numbers = random.Random(int(os.environ.get("SEED", "5")))
-        with self.cluster() as cluster:
-            plan = self.carry(cluster, "--dry-run", "--osd-most", 999, "--most-misplaced", 1)
-            self.assertEqual(plan[0], 10, plan[2])
-            carrier, kinds = self.begun(cluster), ["carrier", "program", "manager", "monitor"]
-            moments = 30 if os.environ.get("LONG") else 8
-            killed = []
-            for at in range(moments):
-                time.sleep(numbers.uniform(0.2, 4))
-                killed.append(kinds[at % len(kinds)])
-                carrier = self.kill_some(cluster, carrier, killed[-1])
-                if carrier.poll() is not None:
-                    carrier = self.begun(cluster)
-            cluster.until(lambda: cluster.ceph("balancer", "off") == "", "the manager answers")
-            self.until(cluster, lambda own: bool(own["state"] == "quiet"), f"all is quiet; {killed}; {self.log[-900:]}")
-            found = {f"pg-upmap-items {group} {' '.join(map(str, pairs))}" for group, pairs in cluster.pairs().items()}
-            self.assertEqual({f"ceph osd {line}" for line in found}, {*plan[1].splitlines()}, self.log)
-            self.assertEqual([line for line, count in Counter(self.given()).items() if count > 1], [], self.log)
+        """Carrier, program, manager and monitor are killed at moments by chance, also amid chunks of a plan and amid
+        commands (`bench/carry_kills.py`): the cluster has what the plan foretold, no command was taken twice, and never
+        was more misplaced than may be. Where LONG is set there are 30 kills."""
+        self.needs("cluster of Ceph's daemons (Debian: ceph-mon, ceph-mgr, ceph-osd)", has_daemons())
+        self.needs("librados' Python (Debian: python3-rados)", system_python() is not None)
+        kills = carry_kills.KILLS if os.environ.get("LONG") else 8
+        rounds = list(carry_kills.killed(str(self.program), kills, int(os.environ.get("SEED", carry_kills.SEED))))
+        for own in rounds:
+            self.assertEqual(own.amiss, [], own)
+            self.assertGreater(own.foretold, 3)
+            self.assertGreater(own.most, 0)
+        self.assertEqual(sum(sum(own.kills.values()) for own in rounds), kills)
+        self.assertGreater(sum(own.chunks for own in rounds), 0)
 
     def test_drain(self) -> None:
         """A drain is carried to its end: the OSD is empty and out, norebalance is not set, and nothing is left."""

@@ -50,6 +50,8 @@ class StandIn(CarryConnection):
         self.keys, self.lock, self.base = dict[str, str](), threading.RLock(), base_sets(program, name)
         self.balancer: Json = {"active": False, "mode": "upmap"}
         self.ratios: Json = {}
+        # What of its status is not told.
+        self.untold = set[str]()
         # What was given, in its order; what is refused; what happens before a question of a prefix is answered.
         self.given, self.refused, self.lost = list[str](), dict[str, str](), set[str]()
         # Where groups are said to be that are where pairs send them.
@@ -162,7 +164,7 @@ class StandIn(CarryConnection):
             return 0.05
         if prefix == "status":
             own = {"num_pgs": len(self.acting), "misplaced_ratio": self.misplaced(), **self.ratios}
-            return {"pgmap": own}
+            return {key: value for key, value in {"pgmap": own}.items() if key not in self.untold}
         answers = {"osd dump": self.dump, "osd crush dump": self.crush, "balancer status": self.balancer}
         return self.groups() if prefix == "pg dump" else answers[prefix]
 

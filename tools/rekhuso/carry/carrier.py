@@ -26,6 +26,8 @@ from .states import GIVEN, MISJUDGED, NO_PROGRAM, CarrierState, Halted, NoAnswer
 ALL_DONE, DAY = "done", 86400.0
 # For how many seconds groups may lie elsewhere than the program says, as OSDs tell late where they are.
 LATE = 120.0
+# The states in which something is judged again soon.
+AT_WORK = ("planning", "carries", "waits")
 # What a person has said, and what that makes of a carrier.
 ON, PAUSED, OFF = "on", "paused", "off"
 SAID = {
@@ -56,6 +58,9 @@ class Engine(Protocol):
 
     def next(self, snapshot: Snapshot, files: Mapping[str, str], plan: JsonObject | None, most: int) -> JudgedStep:
         """What of a plan, or of the one in the folder, is to be done now, with so many places under way at most."""
+
+    def rest(self) -> None:
+        """Nothing is judged for some time: what is open is closed."""
 
 
 @dataclass(frozen=True, **SLOTS)
@@ -117,7 +122,8 @@ class Carrier:
         self.record = record_in(self.keys)
 
     def end(self) -> None:
-        """Leaves the lease."""
+        """Leaves the lease, and closes what is open."""
+        self.engine.rest()
         if not self.wish.is_dry:
             self.lease.leave()
 
@@ -137,6 +143,8 @@ class Carrier:
         """Is in a state from now on, and tells it."""
         before = self.record.state
         self.record.enter(state)
+        if state.state not in AT_WORK:
+            self.engine.rest()
         if state != before:
             self.log(f"{state.state}: {state.words} ({state.code})")
         if not self.lease.lost:

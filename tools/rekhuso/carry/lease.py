@@ -15,6 +15,7 @@ import threading
 import time
 import uuid
 
+from ..cluster.own_process import began, is_gone, place
 from ..faults import Fault
 from ..files import JsonObject
 from .kept import LEASE, Keys
@@ -25,24 +26,6 @@ from .states import Halted, Waiting
 TERM, BEAT, SETTLED, CLOCKS = 60.0, 15.0, 2.0, 5.0
 # What another carrier is called.
 ANOTHER = "carrier"
-
-
-def place() -> str:
-    """Where a process is by its number: which start of which machine, and which numbers of processes."""
-    try:
-        with open("/proc/sys/kernel/random/boot_id", encoding="ascii") as file:
-            return f"{file.read().strip()} {os.readlink('/proc/self/ns/pid')}"
-    except OSError:
-        return ""
-
-
-def began(process: int) -> str:
-    """When a process began, in ticks of the machine; nothing where it is not there."""
-    try:
-        with open(f"/proc/{process}/stat", encoding="utf-8", errors="replace") as file:
-            return file.read().rpartition(") ")[2].split(" ")[19]
-    except (OSError, IndexError):
-        return ""
 
 
 def settle() -> None:
@@ -72,9 +55,7 @@ class Lease:
         until = found.get("until")
         if not isinstance(until, (int, float)) or until + CLOCKS < time.time():
             return None
-        is_here = found.get("place") == place() != ""
-        is_gone = is_here and isinstance(found.get("pid"), int) and began(found["pid"]) != found.get("began")
-        return None if is_gone else found
+        return None if is_gone(found.get("place"), found.get("pid"), found.get("began")) else found
 
     def check_alone(self) -> None:
         """Halted where another carrier is at work."""

@@ -81,7 +81,9 @@ def check_groups(connection: CarryConnection, limits: CarryLimits) -> AtWork:
     """How a cluster is at work. Waiting where groups are unknown, inactive or degraded, where as much is misplaced as
     may be, and where clients ask for more than they may.
     """
-    own: JsonObject = connection.ask("status")["pgmap"]
+    own: JsonObject | None = connection.ask("status").get("pgmap")
+    if own is None:
+        raise Waiting("unknown", "the monitors know of no groups yet")
     for code, key in RATIOS.items():
         if own.get(key, 0) > 0:
             raise Waiting(code, f"{code}: {own[key]:.4f} of all")

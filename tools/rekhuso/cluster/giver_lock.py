@@ -3,7 +3,8 @@
 A monitor has no command that writes a key only where it is not there. So each giver writes a claim of its own and then
 reads all claims: the later of two sees both, and goes back. Where both begin at one moment both may go back; they try
 again after times of their own. A claim says until when it holds, and is renewed meanwhile. One whose time is over, and
-that is not renewed while it is looked at, is that of a giver that has ended, and is taken away.
+that is not renewed while it is looked at, is that of a giver that has ended, and is taken away; one of a process of
+this machine that is gone, at once.
 """
 
 from __future__ import annotations
@@ -23,6 +24,7 @@ from ..faults import Fault, Wait
 from ..together import CLAIMS, Stop
 from ..values import SLOTS
 from .connections import Connection
+from .own_process import began, is_gone, place
 
 # For how long a claim holds, how often it is renewed, and for how long one that is over is looked at, in seconds.
 HOLDS, RENEWED, LOOKED = 120.0, 20.0, 45.0
@@ -33,7 +35,7 @@ TRIES, LONGEST = 6, 1.5
 @dataclass(frozen=True, **SLOTS)
 class Claim:
     """Who gives: the host, the process, when it began, and what it gives; until when the claim holds; how often it was
-    renewed; and whether the giver has seen that there is no other.
+    renewed; whether the giver has seen that there is no other; and where the process is, and when it began there.
     """
 
     host: str
@@ -43,6 +45,8 @@ class Claim:
     until: float
     renewals: int = 0
     is_held: bool = False
+    place: str = ""
+    began: str = ""
 
     def words(self) -> str:
         """Who it is, in one phrase."""
@@ -64,7 +68,8 @@ class GiverLock:
         """Takes the connection, and what is given."""
         self.connection, self.key = connection, f"{CLAIMS}{uuid.uuid4().hex}"
         start = datetime.datetime.now(datetime.timezone.utc).strftime("%Y-%m-%d %H:%M:%S UTC")
-        self.own = Claim(socket.gethostname(), os.getpid(), start, what, 0.0)
+        process = os.getpid()
+        self.own = Claim(socket.gethostname(), process, start, what, 0.0, place=place(), began=began(process))
         self.is_over = threading.Event()
         self.renewer = threading.Thread(target=self.renew, daemon=True)
 
@@ -83,8 +88,13 @@ class GiverLock:
         self.connection.ask({"prefix": "config-key rm", "key": key})
 
     def others(self) -> dict[str, Claim]:
-        """The claims of others."""
-        return {key: own for key, own in self.claims().items() if key != self.key}
+        """The claims of others, without those of processes of this machine that are gone, which are taken away."""
+        found = {key: own for key, own in self.claims().items() if key != self.key}
+        gone = [key for key, own in found.items() if is_gone(own.place, own.process, own.began)]
+        for key in gone:
+            self.drop(key)
+            del found[key]
+        return found
 
     def end_dead(self, found: dict[str, Claim]) -> None:
         """Takes claims away whose time is over, and that are not renewed while they are looked at."""

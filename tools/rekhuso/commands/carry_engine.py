@@ -1,6 +1,8 @@
 """What judges a cluster for `carry`, and makes its plans: what `verify`, `plan` and `next` do, in one Python.
 
-The sets of all groups are asked of the program once for each map that is judged, and go on as long as its sum does.
+The sets of all groups are asked of the program once for each map that is judged, and go on as long as its sum does. One
+run of the program for each map stays open while a plan is carried, and follows the cluster by changes. A plan that is
+made is judged by runs of its own.
 """
 
 from __future__ import annotations
@@ -17,6 +19,7 @@ from ..carry.snapshots import Snapshot
 from ..carry.states import Halted
 from ..cluster.cluster import Cluster
 from ..cluster.data_files import DataFiles, known_data
+from ..cluster.followed import Followed, following
 from ..cluster.group_states import GroupState, states_in
 from ..cluster.sources import Source
 from ..cluster.told_view import verified_view
@@ -66,7 +69,7 @@ class CarryEngine:
 
     def __init__(self, wish: EngineWish) -> None:
         """Takes what is asked for."""
-        self.wish = wish
+        self.wish, self.followed = wish, Followed()
         self.judged: JudgedMap | None = None
 
     def source(self, files: Mapping[str, str]) -> Source:
@@ -84,7 +87,8 @@ class CarryEngine:
 
     def check(self, snapshot: Snapshot, files: Mapping[str, str]) -> None:
         """Halted where groups lie elsewhere than the program says; a fault where too few are told."""
-        with within(self.wish.seconds):
+        self.followed.close_unused()
+        with within(self.wish.seconds), following(self.followed):
             own = self.judged_map(snapshot, files)
             sets = as_in_ceph(own.view, own.sets, self.wish.program)
             found = verified_view(own.view, sets, files["pgs"], True)
@@ -129,6 +133,10 @@ class CarryEngine:
             picture=None,
         )
 
+    def rest(self) -> None:
+        """Ends the runs of the program."""
+        self.followed.close()
+
     def parts(self, files: Mapping[str, str], plan: JsonObject | None) -> list[PlanPart]:
         """The parts of a plan, or of the one in the folder."""
         if plan is None:
@@ -139,7 +147,7 @@ class CarryEngine:
 
     def next(self, snapshot: Snapshot, files: Mapping[str, str], plan: JsonObject | None, most: int) -> JudgedStep:
         """What of a plan is to be done now."""
-        with within(self.wish.seconds):
+        with within(self.wish.seconds), following(self.followed):
             parts, own = self.parts(files, plan), self.judged_map(snapshot, files)
             check_fsid(parts, snapshot)
             cluster = own.cluster

@@ -10,14 +10,13 @@ from dataclasses import replace
 from typing import Any
 
 from ..cluster.disks import Disk
+from ..cluster.followed import KEYS, exceptions_between
 from ..cluster.pool_data import Data
 from ..program.answers import Up
 from ..program.maps import Change, Exceptions, Map, altered, entries_of, group_key
 from .rounds import Live
 from .step_order import has_after
 from .steps import PlanStep, change_by, in_old_order, steps_of
-
-KEYS = (("upmap", "pg_upmap"), ("items", "pg_upmap_items"))
 
 
 def excepted(value: Exceptions, change: Change) -> Exceptions:
@@ -32,11 +31,8 @@ def excepted(value: Exceptions, change: Change) -> Exceptions:
 
 def bring(live: Live, value: Map) -> None:
     """Brings a session to a map that has other exceptions, or other OSDs that are down."""
-    now, change = live.session.dump(), dict[str, Any]()
-    for word, key in KEYS:
-        was, wanted = dict(entries_of(now, key)), dict(entries_of(value, key))
-        change[f"old_{word}"] = [group for group in was if group not in wanted]
-        change[f"new_{word}"] = [[group, own] for group, own in wanted.items() if was.get(group) != own]
+    now = live.session.dump()
+    change = exceptions_between(now, value)
     is_up = {osd["id"]: osd["up"] for osd in now["osds"]}
     change["down"] = [osd["id"] for osd in value["osds"] if is_up[osd["id"]] and not osd["up"]]
     live.session.change(None, **change)

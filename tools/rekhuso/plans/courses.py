@@ -7,7 +7,7 @@ from collections.abc import Iterable, Iterator, Sequence
 from dataclasses import dataclass
 from itertools import chain, groupby
 
-from ..cluster.conversion import monitor_of
+from ..cluster.followed import MOST_CHANGES, session_over
 from ..cluster.moving import coming, erasure_pools, leaving
 from ..cluster.names import set_words
 from ..program.answers import ups_of
@@ -19,8 +19,6 @@ from .printed_commands import PrintedCommand, defect
 
 # The places of the sets of many groups.
 Sets = dict[str, "list[int | None]"]
-# How many changes one session is given at most: fewer than its journal has room for.
-MOST_CHANGES = 65_000
 
 
 @dataclass(frozen=True, **SLOTS)
@@ -61,10 +59,11 @@ class Course:
         self.given: list[Given] = []
         self.before: Sets = {}
         for at in range(0, max(len(commands), 1), MOST_CHANGES):
-            with monitor_of(now, program, True) as session:
+            own = commands[at : at + MOST_CHANGES]
+            with session_over(now, program, len(own)) as session:
                 if not self.before:
                     self.before, self.counts = self.sets(session), session.counts(sorted(self.there))
-                self.give(session, commands[at : at + MOST_CHANGES])
+                self.give(session, own)
                 self.after, now = self.sets(session), session.dump()
                 self.left = session.left(excepted_in(now))
         self.last = now

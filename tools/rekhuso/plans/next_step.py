@@ -20,7 +20,7 @@ from ..cluster.map_parts import map_clusters
 from ..cluster.moving import leaving
 from ..cluster.outage import outage_of
 from ..cluster.view import ClusterView, view_of_cluster
-from ..faults import Changed, Fault, Wait
+from ..faults import Changed, Fault, Trouble, Wait
 from ..program.answers import Up
 from ..program.maps import Map, Program, group_key
 from ..values import SLOTS
@@ -166,6 +166,8 @@ def courses_of(maps: Sequence[Map], commands: Sequence[PrintedCommand], program:
             own = [command for command in commands if group_key(command.group)[0] in numbers]
             found.append(Course(value, own, program))
         Play(found, frozenset()).play([commands], None)
+    except Trouble:  # The program is gone, and nothing is known of the cluster.
+        raise
     except Fault as fault:
         raise changed(fault) from None
     last = {own.group: own.line for own in commands}

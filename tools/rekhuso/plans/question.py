@@ -12,6 +12,7 @@ from ..cluster.cleanup import reason_words
 from ..cluster.conversion import monitor_of
 from ..cluster.difference import moved_parts
 from ..cluster.entry_forms import exceptions_in
+from ..cluster.followed import session_over
 from ..cluster.flows import fewer_in, flows, fullest_by_count, fullest_by_share, short_in, thin_sets
 from ..cluster.map_dumps import cluster_of_map
 from ..cluster.misplaced import check_misplaced, misplaced_of
@@ -44,7 +45,7 @@ def sets_of_maps(maps: Sequence[Map], program: Program) -> dict[str, Up]:
     """What the program answers over the maps of a cluster."""
     found: dict[str, Up] = {}
     for value in maps:
-        with monitor_of(value, program) as monitor:
+        with session_over(value, program) as monitor:
             found.update(monitor.pool_ups(value["pools"]))
     return found
 
