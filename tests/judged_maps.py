@@ -1,6 +1,6 @@
-"""`readmap --judge`, which tells what a script does to the map of a cluster's own bytes: plans and releases that the tools
-make of the same file stand, and lead where the program of sessions says; and a script in which a line is changed is in
-doubt at that line.
+"""`readmap --judge`, which tells what a script does to the map of a cluster's own bytes: plans and releases that the
+tools make of the same file stand, and lead where the program of sessions says; and a script in which a line is changed
+is in doubt at that line.
 
 The maps are those of `read_maps.py`, and the program is the one that it runs.
 """
@@ -47,7 +47,7 @@ class JudgedMaps(StockCase):
         """What the program tells of a script: its status, the lines of its output, and its error."""
         own = self.tools.put("script", script)
         words = [reader(), "--judge", own, path]
-        done = subprocess.run(words, capture_output=True, text=True, timeout=SECONDS, check=False)
+        done = subprocess.run(list(map(str, words)), capture_output=True, text=True, timeout=SECONDS, check=False)
         return done.returncode, done.stdout.splitlines(), done.stderr
 
     def is_as_told(self, script: str, path: pathlib.Path, cluster: Cluster) -> None:
@@ -149,8 +149,8 @@ class JudgedMaps(StockCase):
             f'has "$(ceph osd out {leaves})" it': known,
             f"has '^fsid' it; ceph osd out {leaves}": known,
             f"has `ceph osd out {leaves}` it": known,
-            f"has it > file": known,
-            f"has 'it": known,
+            "has it > file": known,
+            "has 'it": known,
             f'at="$(ceph osd out {leaves})"': known,
             "set +e": known,
             "set -e\r": known,

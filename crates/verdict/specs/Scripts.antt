@@ -18,8 +18,8 @@ abbrev pub lines_of : List ℕ → List (List ℕ)
 lines_of text = slice_split (λ c. c == 10) text
 
 -- the words of a line, between single spaces
-abbrev pub words_of : List ℕ → List (List ℕ)
-words_of text = slice_split (λ c. c == 32) text
+abbrev pub words_in_line : List ℕ → List (List ℕ)
+words_in_line text = slice_split (λ c. c == 32) text
 
 -- what stands behind a beginning
 abbrev pub rest_behind : List ℕ → List ℕ → Option (List ℕ)
@@ -58,7 +58,7 @@ unfoldable pub stated_in : List ℕ → Option Stated
 stated_in text =
     option_and_then
     (λ end. option_and_then
-    (λ pg. option_map (λ osds. record { pg = pg; osds = osds }) (osds_in (words_of (drop (end + 1) text))))
+    (λ pg. option_map (λ osds. record { pg = pg; osds = osds }) (osds_in (words_in_line (drop (end + 1) text))))
     (group_in (take end text)))
     (position (λ c. c == 32) text)
 

@@ -3,7 +3,7 @@
 ghost use Rattle.std.specs.Prelude.{◌≡◌, ◌<◌, ◌==◌, ◌≤◌, ◌++◌, length, position, true, IfOk, IfSome};
 ghost use Rattle.std.specs.Option.{option_map};
 ghost use Rattle.crush.specs.Limits.{max_size};
-ghost use Rattle.verdict.specs.Scripts.{osd_of_word, osds_in, words_of, pairs_of, stand_by_twos, stated_in, places_order, pairs_order, order_in, is_passed, said_at, said_in};
+ghost use Rattle.verdict.specs.Scripts.{osd_of_word, osds_in, words_in_line, pairs_of, stand_by_twos, stated_in, places_order, pairs_order, order_in, is_passed, said_at, said_in};
 ghost use Rattle.verdict.specs.Reading.{stated_of, IsCut};
 
 use crate::asking::asks_alone;
@@ -79,7 +79,7 @@ fn first_part(text: &[u8], at: u8) -> Cut<'_>
 
 /// The OSDs that the words of a text are; `None` where one of them is none.
 fn read_osds(alloc: Global, text: &[u8]) -> Result<Option<Vec<u16>>, AllocError>
-    ensures { IfOk result (λ osds. option_map (λ o. o.items) osds ≡ osds_in (words_of text.now)) }
+    ensures { IfOk result (λ osds. option_map (λ o. o.items) osds ≡ osds_in (words_in_line text.now)) }
 {
     let mut osds = Vec::new(alloc);
     let mut left = Some(text);
