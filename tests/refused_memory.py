@@ -293,7 +293,8 @@ class Judged(Written):
     memory just where one like it does that is refused sooner: for its text, or, with the same lists, for its base."""
 
     OPTIONS = ("--journal", "1")
-    MADE, STALE = 'change {"base":1}\n', "20 StaleEpoch 1"
+    # The first change has a longer number than those behind it: what a session keeps to read has room for these then.
+    MADE, STALE = 'change {"base":1,"weight":[[0,65536]]}\n', "20 StaleEpoch 1"
     ENDS = {"its answer", "no memory", "no memory at all"}
     # A run has two threads, whose growths do not always come in the same order: so many runs may share no end.
     TIMES = 20
