@@ -20,8 +20,9 @@ from rekhuso.plans.printed_commands import commands_in
 from rekhuso.program.answers import Up
 from rekhuso.program.maps import Map, with_all_up
 
+from tests.binary_maps import maps_of
 from tests.read_maps import SECONDS, comes_in, given, reader
-from tests.tool_cases import StockCase
+from tests.tool_cases import StockCase, Tools
 
 
 def shown(up: Up) -> str:
@@ -166,6 +167,48 @@ class JudgedMaps(StockCase):
         self.is_as_told("\n".join([*more, plan]), path, cluster)
         status, lines, _ = self.judged("", path)
         self.assertEqual((status, lines[-1]), (0, "0 commands, all to be given"))
+
+
+class BesideTools(StockCase):
+    """Plans and releases of the tools, which have a program judge them that stands beside their own."""
+
+    def planned_by(self, answer: str, *words: str) -> tuple[int, str, str]:
+        """The plan of a map, where a program that answers so judges it, or none that answers anything."""
+        folder = self.tools.folder / "programs"
+        folder.mkdir(exist_ok=True)
+        beside, judge = folder / "osdmapd", folder / "readmap"
+        beside.write_text(f'#!/bin/sh\nexec {self.tools.program} "$@"\n')
+        judge.write_text(f"#!/bin/sh\n{answer}\n")
+        for program in (beside, judge):
+            program.chmod(0o755)
+        path = self.tools.folder / "osdmap"
+        path.write_bytes(maps_of("16.2.15")["four_hosts"])
+        return Tools(beside, self.tools.folder).run("plan", path, *words)
+
+    def test_judged(self) -> None:
+        """A line in doubt ends a plan, and so does an answer that is none; a map that does not come in does not."""
+        defect = "a defect of the tools; nothing is put out"
+        status, plan, _ = self.planned_by("exit 1")
+        self.assertEqual((status, plan), (70, ""))
+        status, plan, _ = self.planned_by("echo it does not come in >&2; exit 1")
+        self.assertEqual(status, 0)
+        commands = commands_in(plan, others_of(plan))
+        at = next(at for at, line in enumerate(plan.splitlines(), 1) if line == commands[0].line)
+        doubt = f'cp "$2" "$3" {self.tools.folder}; echo "line {at}: in doubt: the map refuses it: UnknownOsd"; exit 1'
+        found = self.planned_by(doubt)
+        told = f"{commands[0].line}: by the bytes of the map the map refuses it: UnknownOsd: {defect}"
+        self.assertEqual((found[0], found[1]), (70, ""))
+        self.assertIn(told, found[2])
+        self.assertEqual((self.tools.folder / "script").read_text(), plan)
+        self.assertEqual((self.tools.folder / "osdmap").read_bytes(), maps_of("16.2.15")["four_hosts"])
+        one_less = f"{len(commands) - 1} commands, all to be given"
+        status, output, error = self.planned_by(f"echo '{one_less}'")
+        self.assertEqual((status, output), (70, ""))
+        self.assertIn(f"and says `{one_less}`", error)
+        self.assertEqual(self.planned_by(f"echo '{len(commands)} commands, all to be given'")[:2], (0, plan))
+        parts = self.tools.folder / "parts"
+        whole = self.planned_by(f"echo '{len(commands)} commands, all to be given'", "--batch", "2", "--to", str(parts))
+        self.assertEqual((whole[0], whole[1].count("plan-")), (0, -(-len(commands) // 2)))
 
 
 def others_of(script: str) -> set[str]:

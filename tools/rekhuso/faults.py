@@ -5,6 +5,10 @@ said.
 from __future__ import annotations
 
 
+# What is said of commands that are not what is told of them.
+DEFECT = "a defect of the tools; nothing is put out"
+
+
 class Fault(Exception):
     """One line or several, each of which says one thing that is wrong."""
 

@@ -77,8 +77,10 @@ fn tell_doubt<R: Print>(rt: &R, doubted: &Doubted) -> io::Result<()> {
 
 /// Tells of each OSD that exists how many groups it has before and after.
 fn tell_counts<R: Print>(rt: &R, judged: &JudgedScript) -> io::Result<()> {
-    for (osd, (before, after)) in judged.before.iter().zip(judged.after.iter()).enumerate() {
-        if judged.verdict.map.exists(osd as u32) {
+    let map = &judged.verdict.map;
+    let counts = judged.before.iter().zip(judged.after.iter());
+    for (osd, (before, after)) in (0..map.max_osd()).zip(counts) {
+        if map.exists(osd) {
             println!(rt; "osd.{osd} {before} {after}")?;
         }
     }

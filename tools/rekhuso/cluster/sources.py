@@ -5,8 +5,10 @@ from __future__ import annotations
 from dataclasses import dataclass
 
 from ..faults import Misuse
+from ..files import unpacked_bytes
 from ..program.maps import Program
 from ..values import SLOTS
+from .binary_maps import is_binary_map
 
 
 @dataclass(frozen=True, **SLOTS)
@@ -45,6 +47,11 @@ class Source:
     def dumps(self) -> DumpFiles:
         """The files of two dumps."""
         return DumpFiles(self.paths[0], self.paths[1], self.tree, self.pools, self.is_unmatched, self.program)
+
+    def map_bytes(self) -> bytes | None:
+        """The bytes of a cluster's own map, where both dumps are taken from one such file."""
+        first, *others = self.paths
+        return unpacked_bytes(first) if others == [first] and is_binary_map(first) else None
 
     def check_map(self) -> None:
         """An error of use where options for dumps stand beside a map."""

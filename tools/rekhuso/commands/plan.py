@@ -71,7 +71,7 @@ from ..running import doing, tell
 from ..values import SLOTS
 from .arguments import Arguments, Commands, add_files, putting, reading, rename, set_work, source_of
 from .filter_words import osds_of_classes
-from .put_words import PutWords, add_put_words, commands_a_file, file_or_folder, put_words
+from .put_words import PutWords, add_put_words, check_bytes, commands_a_file, file_or_folder, put_words
 
 # What is told above a plan of its other forms.
 PARTS = "parts:  the same words with --batch N --to FOLDER write files of N commands each, with what each moves"
@@ -435,6 +435,7 @@ def check_printed(told: ToldPlan, scripts: list[str], options: PlanOptions) -> N
         told.printed.check_scripts([commands], lengths, scripts)
     else:
         told.printed.check_scripts(scripts, lengths, [])
+        check_bytes(options.source, scripts, sum(lengths), told.printed.asked)
 
 
 def work(options: PlanOptions) -> None:

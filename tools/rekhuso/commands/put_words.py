@@ -9,9 +9,12 @@ import os
 import re
 from dataclasses import dataclass
 
+from ..cluster.sources import Source
 from ..faults import Misuse, Trouble
 from ..files import put
 from ..output.plan_scripts import put_batches
+from ..plans.printed import Asked
+from ..program.bytes_judge import check_by_bytes
 from ..values import SLOTS
 from .arguments import Arguments, add_guard, add_json, putting
 from .part_words import PartWords, add_part_words, part_words
@@ -42,6 +45,15 @@ class PutWords:
             put_batches(self.to, "undo" if self.is_undo else word, scripts)
         else:
             put(self.to, "".join(scripts))
+
+
+def check_bytes(source: Source, scripts: list[str], count: int, asked: Asked) -> None:
+    """Has the scripts of so many commands judged from the bytes of the cluster's own map, where they are made from it,
+    and the monitor judges exceptions by the weights that a map has.
+    """
+    data = None if asked is Asked.NONE else source.map_bytes()
+    if data is not None:
+        check_by_bytes(data, scripts, count, source.program)
 
 
 def check_place(path: str, is_folder: bool) -> None:

@@ -51,7 +51,7 @@ from .arguments import (
 )
 from .data_words import add_data_words, data_files, data_of
 from .filter_words import FilterWords, add_filter_words, filter_words
-from .put_words import PutWords, add_put_words, file_or_folder, put_words
+from .put_words import PutWords, add_put_words, check_bytes, file_or_folder, put_words
 
 UNDO = "undo:   the same words with --undo, over the same files, which are to be kept"
 
@@ -151,6 +151,7 @@ def check_printed(found: Release, scripts: list[str], options: ReleaseOptions) -
         found.printed.check_scripts(parts, found.lengths, scripts)
     else:
         found.printed.check_scripts(scripts, found.lengths, [])
+        check_bytes(options.source, scripts, sum(found.lengths), found.printed.asked)
 
 
 def put_release_json(found: Release, data: Data | None, origin: Origin) -> None:

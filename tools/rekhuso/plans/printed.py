@@ -15,13 +15,13 @@ from enum import Enum
 from itertools import chain
 
 from ..cluster.names import set_words
-from ..faults import Misjudged
+from ..faults import DEFECT, Misjudged
 from ..program.maps import Map, Program, group_key
 from ..running import doing
 from ..values import SLOTS
 from .bounds import Measure
 from .courses import Course, Play, excepted_in
-from .printed_commands import DEFECT, PrintedCommand, commands_in, defect
+from .printed_commands import PrintedCommand, commands_in, defect
 
 
 class Asked(Enum):

@@ -6,7 +6,7 @@ import re
 from collections.abc import Iterable
 from dataclasses import dataclass
 
-from ..faults import Misjudged
+from ..faults import DEFECT, Misjudged
 from ..program.maps import Change, Entry
 from ..values import SLOTS
 from .guards import is_guard
@@ -15,7 +15,6 @@ FORM = re.compile(r"ceph osd (rm-)?(pg-upmap|pg-upmap-items) ([0-9]+\.[0-9a-f]+)
 # The key of a change for each word.
 KEYS = {"pg-upmap": "upmap", "pg-upmap-items": "items"}
 # What is told of a script that is not put out.
-DEFECT = "a defect of the tools; nothing is put out"
 
 
 def defect(line: str, why: str) -> Misjudged:

@@ -13,12 +13,12 @@ from dataclasses import dataclass
 
 from ..cluster.leaders import Leaders, read_again
 from ..cluster.view import ClusterView
-from ..faults import Misjudged
+from ..faults import DEFECT, Misjudged
 from ..program.answers import Up
 from ..program.maps import Program
 from ..values import SLOTS
 from .guards import is_guard
-from .printed_commands import DEFECT, defect
+from .printed_commands import defect
 from .question import sets_of_maps
 
 NAMING = re.compile(

@@ -30,20 +30,33 @@ TARGETS = {"osdmapd": "make run", "osdmapstore": "make store"}
 CHECKED = ".checked"
 
 
+def places_of(name: str, beside: Program = None) -> list[pathlib.Path]:
+    """Where a program may be: beside another, if one is given or the variable names one, and in the repository in which
+    the tools stand.
+    """
+    crate, beside = CRATES / name, beside or os.environ.get(VARIABLE)
+    near = [pathlib.Path(beside).resolve().parent / name] if beside else []
+    return near + ([crate / "out" / name] if crate.is_dir() else [])
+
+
+def found_in(places: list[pathlib.Path], name: str) -> str | None:
+    """The program at the first of some places that has it, else the one of its name on the path, if there is one."""
+    return next((str(path) for path in places if path.exists()), None) or shutil.which(name)
+
+
 def built(name: str, beside: Program = None) -> pathlib.Path:
     """A program where none is named: that beside another, if one is given or the variable names one, else that of the
     repository in which the tools stand, else the one of this name on the path, else that of the repository that has
     checks in place of proofs, which is told. A fault that tells where it was looked for.
     """
-    crate, beside = CRATES / name, beside or os.environ.get(VARIABLE)
-    near = [pathlib.Path(beside).resolve().parent / name] if beside else []
-    own = [crate / "out" / name] if crate.is_dir() else []
-    found = next((str(path) for path in near + own if path.exists()), None) or shutil.which(name)
-    if found is None and own and (checked := own[0].with_name(name + CHECKED)).exists():
+    own = places_of(name, beside)
+    found = found_in(own, name)
+    checked = CRATES / name / "out" / (name + CHECKED)
+    if found is None and checked.exists():
         tell_once(f"{checked}: checks in place of proofs: nothing of it is proved; `{TARGETS[name]}` proves one")
         return checked
     if found is None:
-        places = [f"{path} is not there" for path in near + own] + [
+        places = [f"{path} is not there" for path in own] + [
             f"no folder of PATH has {name} ({os.environ.get('PATH', '')})"
         ]
         raise Trouble(
