@@ -130,8 +130,8 @@ class JudgedMaps(StockCase):
             f"ceph osd pg-upmap-items {pool}.0 {leaves} {comes}": refused + "UnknownPool",
             f"ceph osd pg-upmap-items {number}.{groups:x} {leaves} {comes}": refused + "UnknownGroup",
             f"ceph osd pg-upmap-items {group} {leaves} {top}": refused + "UnknownOsd",
-            f"ceph osd pg-upmap-items {group} {leaves} {leaves}": refused + "BadNewException",
-            f"ceph osd pg-upmap {group} {comes} {comes}": refused + "BadNewException",
+            f"ceph osd pg-upmap-items {group} {leaves} {leaves}": refused + "BadException",
+            f"ceph osd pg-upmap {group} {comes} {comes}": refused + "BadException",
             f"ceph osd pg-upmap-items {group} {idle} {comes}": gone + "none of its pairs does anything",
             f"ceph osd pg-upmap-items {group} {leaves} {comes} {idle} {comes}": "a monitor would take some of its pairs"
             " away again",
