@@ -1,6 +1,6 @@
 -- What is read and judged part by part.
-use Rattle.std.proofs.Common.{◌≡◌, ◌∙◌, ℕ, ◌+◌, ◌<◌, ◌≤◌, List, [], ◌∷◌, ◌++◌, length, drop, get_or, drop-cons, add-one, append_assoc, append-nil, Option, None, Some, Result, Ok, Err, refl, sym, ap, arith}
-use Rattle.std.specs.Prelude.{option_and_then, IfOk}
+use Rattle.std.proofs.Common.{◌≡◌, ◌∙◌, ℕ, ◌+◌, ◌<◌, List, [], ◌∷◌, ◌++◌, length, drop, get_or, drop-cons, add-one, append_assoc, append-nil, Option, None, Some, Result, Ok, Err, refl, sym, ap}
+use Rattle.std.specs.Prelude.{IfOk}
 use Rattle.std.specs.Option.{option_map}
 use Rattle.mapparts.specs.declared.profile.Profile.{Profile}
 use Rattle.osdmap.specs.Maps.{ClusterMap}
@@ -8,7 +8,7 @@ use Rattle.verdict.specs.declared.doubt.Doubt.{Doubt}
 use Rattle.verdict.specs.declared.judging.Taken.{Taken}
 use Rattle.verdict.specs.declared.script.Said.{Said}
 use Rattle.verdict.specs.Scripts.{osd_of_word, osds_in, said_at, said_from}
-use Rattle.verdict.specs.Verdicts.{Judged, said_verdict, map_behind, taken_first, judged}
+use Rattle.verdict.specs.Verdicts.{Judged, said_verdict, map_behind, judged}
 use Rattle.verdict.specs.declared.doubt.Stop.{Stop}
 use Rattle.verdict.specs.declared.doubt.Stop.TheVariants as stop
 use Rattle.verdict.specs.declared.judging.Verdict.{Verdict}

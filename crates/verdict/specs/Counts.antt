@@ -1,5 +1,5 @@
 -- What is counted of a cluster: as if all its OSDs were up, so that what is down for a while still counts.
-use Rattle.std.specs.Prelude.{◌≡◌, ℕ, List, length, map}
+use Rattle.std.specs.Prelude.{ℕ, List, length, map}
 use Rattle.std.specs.List.{range_with_len}
 use Rattle.mapparts.specs.declared.parts.MapParts.{MapParts}
 use Rattle.mapparts.specs.declared.parts.OsdPart.{OsdPart}

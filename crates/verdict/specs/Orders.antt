@@ -4,7 +4,7 @@ use Rattle.mapparts.specs.declared.change.ExceptionChanges.{ExceptionChanges}
 use Rattle.mapparts.specs.declared.profile.Profile.{Profile}
 use Rattle.maptypes.specs.declared.change.ChangeParts.{ChangeParts}
 use Rattle.maptypes.specs.declared.pg.Pg.{Pg}
-use Rattle.maptypes.specs.Named.{no_exceptions, no_parts}
+use Rattle.maptypes.specs.Named.{no_parts}
 use Rattle.verdict.specs.declared.order.Order.{Order}
 use Rattle.verdict.specs.declared.order.Order.TheVariants.{SetPlaces, DropPlaces, SetPairs, DropPairs}
 

@@ -1,4 +1,4 @@
-use Rattle.std.proofs.Common.{◌∙◌, ◌≡◌, ◌+◌, ◌≤◌, length, drop, sym, ap, arith}
+use Rattle.std.proofs.Common.{◌∙◌, ◌+◌, ◌≤◌, length, drop, sym, ap, arith}
 use Rattle.std.proofs.Math.ListN.{drop_of_length-le}
 use Rattle.verdict.specs.Verdicts.{judged}
 use Rattle.verdict.proofs.Lines.{judged_more, judged_all, ends_so, if_ok, left_from}

@@ -1,4 +1,4 @@
-use Rattle.std.proofs.Common.{◌≤◌, ◌<◌, ◌+◌, ◌-◌, length, take, drop, arith, sym, length-drop}
+use Rattle.std.proofs.Common.{◌≤◌, ◌<◌, ◌+◌, ◌-◌, length, drop, arith, sym, length-drop}
 use Rattle.std.proofs.lemmas.List.{take_all}
 use Rattle.verdict.proofs.Cuts.{cut_some, cut_none}
 use Rattle.verdict.proofs.script.first_part.Goals as goal

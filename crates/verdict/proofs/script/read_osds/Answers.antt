@@ -1,6 +1,5 @@
-use Rattle.std.proofs.Common.{◌∙◌, ◌≡◌, sym, ap}
-use Rattle.std.specs.Option.{option_map, option_copied}
-use Rattle.verdict.specs.Scripts.{osds_in}
+use Rattle.std.proofs.Common.{◌∙◌, sym}
+use Rattle.std.specs.Option.{option_copied}
 use Rattle.verdict.specs.Reading.{parts_left}
 use Rattle.verdict.proofs.Lines.{osds_none, osds_more, osds_all}
 use Rattle.verdict.proofs.script.read_osds.Goals as goal

@@ -1,4 +1,4 @@
-use Rattle.std.proofs.Common.{◌∙◌, ◌≡◌, ◌<◌, ◌+◌, [], length, sym, arith}
+use Rattle.std.proofs.Common.{◌∙◌, ◌<◌, ◌+◌, [], length, sym, arith}
 use Rattle.verdict.specs.Scripts.{lines_of}
 use Rattle.verdict.proofs.Lines.{said_more, said_all}
 use Rattle.verdict.proofs.script.read_script.Goals as goal
