@@ -125,7 +125,7 @@ TIES = [
         + span("whole_cluster", f"{MADE_UP}osdmaptool, deviation 1", "fullest"),
     ),
     Tie("README.md", "the promises above cite some {} lines", one("trust", "all promises together", "lines")),
-    Tie("README.md", "dumps are some {} lines of Python", one("trust", "all tools", "lines")),
+    Tie("README.md", "The tools, some {} lines of Python", one("trust", "all tools", "lines")),
     Tie(
         "docs/SPEEDS.md",
         "plain C, list and tree buckets | {} to {} and {} to {} of its instructions",
