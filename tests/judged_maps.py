@@ -1,6 +1,6 @@
-"""`readmap --judge`, which tells what a script does to the map of a cluster's own bytes: plans and releases that the
-tools make of the same file stand, and lead where the program of sessions says; and a script in which a line is changed
-is in doubt at that line.
+"""`readmap --judge`, which tells what a script does to the map of a cluster's own bytes: plans, releases and holds that
+the tools make of the same file stand, and lead where the program of sessions says; and a script in which a line is
+changed is in doubt at that line.
 
 The maps are those of `read_maps.py`, and the program is the one that it runs.
 """
@@ -9,6 +9,7 @@ from __future__ import annotations
 
 import os
 import pathlib
+import shutil
 import subprocess
 from collections import Counter
 
@@ -91,6 +92,23 @@ class JudgedMaps(StockCase):
         self.assertGreater(plans, 10)
         self.assertGreater(releases, 0)
         self.assertGreater(commands, 100)
+
+    def test_holds(self) -> None:
+        """What holds groups behind another CRUSH weight, over the map that has it. Ceph's tools make that map."""
+        self.needs("osdmaptool and crushtool", all(map(shutil.which, ("osdmaptool", "crushtool"))))
+        old, new, crush = (self.tools.folder / name for name in ("old", "new", "crush"))
+        for data in (old, new):
+            data.write_bytes(maps_of("16.2.15")["four_hosts"])
+        for words in (
+            ["osdmaptool", new, "--export-crush", crush],
+            ["crushtool", "-i", crush, "--reweight-item", "osd.0", "2.5", "-o", crush],
+            ["osdmaptool", new, "--import-crush", crush],
+        ):
+            subprocess.run(list(map(str, words)), capture_output=True, timeout=SECONDS, check=True)
+        status, hold, error = self.tools.run("hold", old, new)
+        self.assertEqual((status, hold.count(" pg-upmap-items ")), (0, 58), error)
+        self.is_as_told(hold, new, both_dumps(str(new), str(new))[0])
+        self.assertEqual(self.judged(hold, old)[0], 1)
 
     def planned(self) -> tuple[str, pathlib.Path, Cluster]:
         """A plan of three commands or more, with the file of its map."""

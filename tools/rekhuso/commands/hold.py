@@ -52,7 +52,7 @@ from .arguments import (
 from .change_words import ChangeWords, add_change_words, change_words, files_and_change
 from .filter_words import FilterWords, add_filter_words, filter_words
 from .hold_instead import Tried, instead_of
-from .put_words import PutWords, add_put_words, file_or_folder, put_words
+from .put_words import PutWords, add_put_words, check_bytes, file_or_folder, put_words
 
 FORMS = "OSD_DUMP CRUSH_DUMP [CHANGE] | OLD_OSD_DUMP OLD_CRUSH_DUMP NEW_OSD_DUMP NEW_CRUSH_DUMP"
 
@@ -196,6 +196,8 @@ def check_printed(hold: Hold, scripts: list[str], options: HoldOptions) -> None:
         printed.check_scripts([commands], [], scripts, ROUND)
     else:
         printed.check_scripts(scripts, [], [], ROUND)
+        if options.new is not None:
+            check_bytes(options.new, scripts, sum("pg-upmap" in line for line in hold.commands), printed.asked)
 
 
 def work_before(options: HoldOptions) -> None:
