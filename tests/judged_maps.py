@@ -208,7 +208,10 @@ class BesideTools(StockCase):
         defect = "a defect of the tools; nothing is put out"
         status, plan, _ = self.planned_by("exit 1")
         self.assertEqual((status, plan), (70, ""))
-        status, plan, _ = self.planned_by("echo it does not come in >&2; exit 1")
+        status, plan, error = self.planned_by("echo osdmap: there is no memory for it >&2; exit 1")
+        self.assertEqual((status, plan), (2, ""))
+        self.assertIn("readmap: there is no memory for it, so the script is not judged", error)
+        status, plan, _ = self.planned_by("echo osdmap: it does not come in: SeveralTrees >&2; exit 1")
         self.assertEqual(status, 0)
         commands = commands_in(plan, others_of(plan))
         at = next(at for at, line in enumerate(plan.splitlines(), 1) if line == commands[0].line)

@@ -15,6 +15,8 @@ from .process import found_in, places_of, temporary
 
 # How long the program may take, how it says that all is to be given, and what it says of a line in doubt.
 SECONDS, ALL, DOUBT = 600, "commands, all to be given", ": in doubt: "
+# How it says that a map does not come in as one, and that it finds no memory.
+STAYS_OUT, MEMORY = (": it does not come in: ", ": it is no map: "), "there is no memory for it"
 
 
 def answer_of(judge: str, script: str, data: bytes) -> subprocess.CompletedProcess[str]:
@@ -45,8 +47,10 @@ def check_by_bytes(data: bytes, scripts: Sequence[str], count: int, program: Pro
         number, why = last.removeprefix("line ").split(DOUBT, 1)
         line = text.splitlines()[int(number) - 1]
         raise Misjudged(f"{line}: by the bytes of the map {why}: {DEFECT}")
-    if done.returncode == 1 and done.stderr and not done.stdout:
+    if done.returncode == 1 and not done.stdout and any(words in done.stderr for words in STAYS_OUT):
         return
+    if done.returncode == 1 and MEMORY in done.stderr:
+        raise Trouble(f"{judge}: {MEMORY}, so the script is not judged from the bytes of the map")
     if done.returncode or last != f"{count} {ALL}":
         told = last or done.stderr.strip() or f"status {done.returncode}"
         raise Misjudged(f"{judge} should say `{count} {ALL}`, and says `{told}`: {DEFECT}")
