@@ -1,10 +1,10 @@
 -- Lines of a text that are answered, one after the other, and what is left of it.
-use Rattle.std.specs.Prelude.{◌≡◌, ℕ, false, List, [], ◌∷◌, ◌++◌, ◌+◌, ◌≤◌, length, All, Option, Some, IfSome, Result, MatchResult}
+use Rattle.std.specs.Prelude.{◌≡◌, ◌⊎◌, ℕ, false, List, [], ◌∷◌, ◌++◌, ◌+◌, ◌≤◌, length, All, Option, Some, None, IfSome, Result, MatchResult}
 use Rattle.std.specs.Io.KnownBytes.{Keeps, Consumes}
 use Rattle.monitor.specs.declared.question.Question.{Question}
 use Rattle.session.specs.declared.error.SessionError.{SessionError}
 use Rattle.session.specs.declared.error.SessionError.TheVariants.{Read}
-use Rattle.session.specs.Commands.{is_newline, lines_in, ask, command_in}
+use Rattle.session.specs.Commands.{is_newline, lines_in, ask, command_in, question_in}
 use Rattle.session.specs.Transcripts.{Manner, TakesLine, IsTranscript, StopsFrom, Stops}
 use Rattle.session.specs.Ends.{Halts}
 
@@ -19,6 +19,12 @@ IsAsking line question = IsUnended line × (command_in line ≡ Some (ask questi
 -- a text whose first line is this, and what stands behind its newline
 abbrev pub whole_text : List ℕ → List ℕ → List ℕ
 whole_text line others = line ++ 10 ∷ others
+
+-- the first line that ends in a text asks no question, or none ends in it
+abbrev pub AsksNone : List ℕ → Type 0
+AsksNone text =
+    IsUnended text
+    ⊎ ((line : List ℕ) × (rest : List ℕ) × IsUnended line × (text ≡ whole_text line rest) × (question_in line ≡ None))
 
 -- what is left of a text, as lines by these numbers end in it
 abbrev pub IsLeft : ℕ → ℕ → List ℕ → List ℕ → Type 0

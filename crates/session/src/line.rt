@@ -1,7 +1,7 @@
 //! The lines of a text, each with what it asks for.
-ghost use Rattle.std.specs.Prelude.{◌≡◌, ◌<◌, ◌∷◌, ◌++◌, length, position, IfSome, MatchOption};
+ghost use Rattle.std.specs.Prelude.{◌≡◌, ◌<◌, ◌∷◌, ◌++◌, ⊤, length, position, IfSome, MatchOption};
 ghost use Rattle.std.specs.Option.{option_map};
-ghost use Rattle.session.specs.Readings.{IsUnended, IsAsking};
+ghost use Rattle.session.specs.Readings.{IsUnended, IsAsking, AsksNone};
 ghost use Rattle.session.specs.Commands.{is_newline, command_of, command_in};
 
 use crate::command::Command;
@@ -69,6 +69,7 @@ pub(crate) fn read_line(text: &[u8]) -> Line<'_>
 pub(crate) fn first_asking(text: &[u8]) -> Option<Asking<'_>>
     ensures asks { IfSome result (λ asking. IsAsking asking.line.now asking.question) }
     ensures text { IfSome result (λ asking. text.now ≡ asking.line.now ++ 10 ∷ asking.rest.now) }
+    ensures none { MatchOption result (AsksNone text.now) (λ _. ⊤) }
 {
     let FirstLine { line, rest } = cut(text)?;
     let question = read_question(line)?;
