@@ -1,5 +1,5 @@
-"""Scripts judged from the bytes of a cluster's own map, by `readmap --judge`: one proved program, with none of these tools
-between. Where it is not there, or the map does not come in as one, nothing is asked.
+"""Scripts judged from the bytes of a cluster's own map, by `readmap --judge`: one proved program, with none of these
+tools between. Where it is not there, or the map does not come in as one, nothing is asked.
 """
 
 from __future__ import annotations
