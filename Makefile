@@ -18,7 +18,7 @@ LOG = gate.log
 KEY =
 BENCHES = placements tables steps sessions live store balancer reading cliffs tools wide whole_cluster
 
-.PHONY: help form try checked prove run store test gate runs bench static dist packages release
+.PHONY: help form try checked prove run store judge test gate runs bench static dist packages release
 
 help:
 	@echo 'make form   the tests of form: sources, pages, figures and types, without a program (half a minute to a minute)'
@@ -28,6 +28,7 @@ help:
 	@echo 'make run    the program proved and built, then the example answered by it (slow the first time: every proof below it)'
 	@echo '            MAP= and SCRIPT= as above; CPU=x86-64-v3 (or another of LLVM) builds it for that processor'
 	@echo 'make store  the program whose map a file keeps, proved and built: crates/osdmapstore/out/osdmapstore'
+	@echo 'make judge  the program that judges a script from a cluster'"'"'s own bytes, proved and built: crates/readmap/out/readmap'
 	@echo 'make test   the gate: the tests of form, every proof (from nothing the first time, later only what changed), the edits that'
 	@echo '            must not prove, the tests, then runs of the built program, also beside one that is built with checks'
 	@echo 'make gate   the gate without the runs'
@@ -62,6 +63,9 @@ prove:
 run: prove
 	@echo 'The proved program answers:' >&2
 	@$(PROGRAM) '$(MAP)' '$(SCRIPT)'
+
+judge:
+	@cd crates/readmap && rt run -- --map data/flat >&2
 
 store:
 	@cd crates/osdmapstore && rt run $(if $(CPU),--cpu $(CPU)) -- --help
