@@ -24,7 +24,7 @@ def answer_of(judge: str, script: str, data: bytes) -> subprocess.CompletedProce
     with temporary(), tempfile.TemporaryDirectory() as name:
         folder = pathlib.Path(name)
         own, osdmap = folder / "script", folder / "osdmap"
-        own.write_text(script)
+        own.write_bytes(script.encode())
         osdmap.write_bytes(data)
         words = [judge, "--judge", str(own), str(osdmap)]
         try:
@@ -45,7 +45,7 @@ def check_by_bytes(data: bytes, scripts: Sequence[str], count: int, program: Pro
     last = (done.stdout.splitlines() or [""])[-1]
     if done.returncode == 1 and DOUBT in last:
         number, why = last.removeprefix("line ").split(DOUBT, 1)
-        line = text.splitlines()[int(number) - 1]
+        line = text.split("\n")[int(number) - 1]
         raise Misjudged(f"{line}: by the bytes of the map {why}: {DEFECT}")
     if done.returncode == 1 and not done.stdout and any(words in done.stderr for words in STAYS_OUT):
         return
