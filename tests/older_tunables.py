@@ -270,6 +270,17 @@ class OlderTunables(StockCase):
             with self.subTest(tunables=tunables, steps=steps):
                 self.assertEqual(self.told_of(tunables, steps)[0], [wanted + block])
 
+    def test_take_behind_idle(self) -> None:
+        """A block gives nothing where a step of it chooses nothing, unless a later step takes anew: such a block is not
+        left out, and as no rule of a map has it, it keeps the cluster out."""
+        take = {"op": "take", "item": -1, "item_name": "default"}
+        none, emit = {"op": "choose_firstn", "num": -3, "type": "host"}, {"op": "emit"}
+        own = [["take", -1], ["chooseleaf_firstn", 0, 1], ["emit"]]
+        self.assertEqual(self.told_of({}, [take, none, emit])[0], [own])
+        found, error = self.told_of({}, [take, none])
+        self.assertIsNone(found)
+        self.assertIn("a block is a take, one to three choose steps and an emit", error)
+
     def test_tunables_that_stay_out(self) -> None:
         """What no step sets, and numbers past those that a step sets, keep a cluster out, and so does a rule that gets
         too long."""

@@ -9,6 +9,7 @@ use Rattle.cephmap.specs.declared.rule.StepWord.{StepWord}
 use Rattle.cephmap.specs.declared.rule.StepWord.TheVariants as words
 use Rattle.mapparts.specs.declared.parts.StepPart.{StepPart}
 use Rattle.mapparts.specs.declared.parts.StepPart.TheVariants.{SetChooseTries, SetChooseleafTries, SetChooseleafVaryR, SetChooseleafStable, Take, Choose, Emit}
+use Rattle.cephimport.specs.Uses.{is_take}
 
 -- a step that sets how later ones choose
 abbrev pub is_setting : StepWord → Bool
@@ -65,10 +66,19 @@ imported_step size s = part_of_word s.word size s
 unfoldable pub is_idle : ℕ → Step → Bool
 is_idle size s = chooses s.word && int_lt s.first (pos 0) && int_le (count_for size s.first) (pos 0)
 
+-- a step before the next emit takes
+unfoldable pub takes_ahead : List Step → Bool
+takes_ahead [] = false
+takes_ahead (s ∷ rest) = not (emits s.word) && (is_take s.word || takes_ahead rest)
+
+-- a step chooses nothing, and none takes anew before the next emit
+abbrev pub leaves_nothing : ℕ → Step → List Step → Bool
+leaves_nothing size s rest = is_idle size s && not (takes_ahead rest)
+
 -- a step before the next emit does, so that its block gives nothing
 unfoldable pub idle_ahead : ℕ → List Step → Bool
 idle_ahead size [] = false
-idle_ahead size (s ∷ rest) = not (emits s.word) && (is_idle size s || idle_ahead size rest)
+idle_ahead size (s ∷ rest) = not (emits s.word) && (leaves_nothing size s rest || idle_ahead size rest)
 
 -- whether the block behind a step gives nothing, where that of the step gives nothing or not
 unfoldable pub idle_behind : ℕ → Bool → Step → List Step → Bool

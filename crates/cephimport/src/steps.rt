@@ -1,7 +1,7 @@
 //! Steps of rules as a map states them.
 
 ghost use Rattle.std.specs.Prelude.{◌≡◌, ◌++◌, OnOk, IfOk};
-ghost use Rattle.cephimport.specs.Steps.{is_setting, emits, chooses, count_for, choose_part, other_step, imported_step, is_idle, idle_ahead, idle_behind, lives, keeps, kept_steps};
+ghost use Rattle.cephimport.specs.Steps.{is_setting, emits, chooses, count_for, choose_part, other_step, imported_step, is_idle, takes_ahead, idle_ahead, idle_behind, lives, keeps, kept_steps};
 
 use cephmap::{Step, StepWord};
 use crush::Mode;
@@ -102,7 +102,20 @@ fn is_idle(size: u8, step: &Step) -> bool
     chooses(step.word) && step.first < 0 && count_for(size, step.first) <= 0
 }
 
-/// Whether a step before the next emit does.
+/// Whether a step before the next emit takes.
+#[tactic(auto, unfolding(crate::specs::Steps::takes_ahead))]
+fn takes_ahead(steps: &[Step]) -> bool
+    ensures { result ≡ takes_ahead steps.now }
+{
+    match steps {
+        [] => false,
+        [step, rest @ ..] => {
+            !emits(step.word) && (step.word == StepWord::Take || takes_ahead(rest))
+        }
+    }
+}
+
+/// Whether a step before the next emit chooses nothing, and none takes anew behind it.
 #[tactic(auto, unfolding(crate::specs::Steps::idle_ahead))]
 fn idle_ahead(size: u8, steps: &[Step]) -> bool
     ensures { result ≡ idle_ahead size steps.now }
@@ -110,7 +123,8 @@ fn idle_ahead(size: u8, steps: &[Step]) -> bool
     match steps {
         [] => false,
         [step, rest @ ..] => {
-            !emits(step.word) && (is_idle(size, step) || idle_ahead(size, rest))
+            !emits(step.word)
+                && (is_idle(size, step) && !takes_ahead(rest) || idle_ahead(size, rest))
         }
     }
 }

@@ -183,6 +183,7 @@ class Cluster:
             own = self.step_of(step, size)
             block.append(own)
             is_idle = is_idle or own[0].startswith("choose") and step["num"] < 0 and own[1] <= 0 and self.is_stock
+            is_idle = is_idle and own[0] != "take"
             if step["op"] == "emit":
                 steps += [own for own in block if own[0] in SETTING] if is_idle else block
                 block, is_idle = [], False

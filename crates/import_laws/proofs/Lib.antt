@@ -1,0 +1,12 @@
+mod AllSizes
+mod Champions
+mod IdleBlocks
+mod OwnBuckets
+mod OwnFronts
+mod OwnImports
+mod OwnPicks
+mod OwnPlaces
+mod OwnRuns
+mod OwnTries
+mod PairedWorlds
+mod StepForms
