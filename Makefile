@@ -4,6 +4,8 @@ EXAMPLE = $(CURDIR)/examples
 PROGRAM = $(CURDIR)/crates/osdmapd/out/osdmapd
 # The program over a store. Where it is not built, its tests are told as NOT RUN.
 STORE = $(CURDIR)/crates/osdmapstore/out/osdmapstore
+# The program that judges scripts from a cluster's own bytes; its tests find it by the same path, or by READMAP.
+JUDGE = $(CURDIR)/crates/readmap/out/readmap
 # The map and the script that `try` and `run` answer, by their paths from here; the script may be /dev/stdin.
 MAP = $(EXAMPLE)/map.json
 SCRIPT = $(EXAMPLE)/script.txt
@@ -65,7 +67,8 @@ run: prove
 	@$(PROGRAM) '$(MAP)' '$(SCRIPT)'
 
 judge:
-	@cd crates/readmap && rt run -- --map data/flat >&2
+	@cd crates/readmap && rt run $(if $(CPU),--cpu $(CPU)) -- --map data/flat >&2
+	@python3 tools/proved.py $(JUDGE)
 
 store:
 	@cd crates/osdmapstore && rt run $(if $(CPU),--cpu $(CPU)) -- --help
@@ -90,10 +93,10 @@ bench:
 	test -z "$$failed"
 
 static:
-	@python3 tools/static.py $(PROGRAM) $(STORE)
+	@python3 tools/static.py $(PROGRAM) $(STORE) $(JUDGE)
 
 dist:
-	@python3 tools/dist.py $(if $(KEY),--key '$(KEY)') '$(LOG)' dist $(PROGRAM) $(STORE)
+	@python3 tools/dist.py $(if $(KEY),--key '$(KEY)') '$(LOG)' dist $(PROGRAM) $(STORE) $(JUDGE)
 
 packages:
 	@python3 tools/packages.py $(if $(KEY),--key '$(KEY)') dist/rekhuso-*.tar.gz

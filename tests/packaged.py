@@ -29,6 +29,13 @@ from tests.tool_cases import AS_STORE
 
 TOOLS = TOP / "tools"
 SECONDS = 300
+# The programs: the head of each in docs/FORMATS.md, and where it has options beside those of its own `line`.
+ARGUMENTS = ("cli", "src", "arguments.rt")
+PROGRAMS = {
+    "osdmapd": ("## The program", ARGUMENTS),
+    "osdmapstore": ("## The program with a store", ARGUMENTS),
+    "readmap": ("## The program over a cluster's own map",),
+}
 
 # Puts out the names of all commands.
 NAMES = """
@@ -408,9 +415,9 @@ class Packaged(Case):
     def test_manuals_of_programs(self) -> None:
         """The page of each program has each of its options, and each of its statuses that docs/FORMATS.md has"""
         formats = text("docs", "FORMATS.md")
-        for name, head in (("osdmapd", "## The program"), ("osdmapstore", "## The program with a store")):
+        for name, (head, *others) in PROGRAMS.items():
             with self.subTest(name=name):
-                sources = [text("crates", *path) for path in (("cli", "src", "arguments.rt"), (name, "src", "line.rt"))]
+                sources = [text("crates", *path) for path in (*others, (name, "src", "line.rt"))]
                 wanted = set(re.findall(r'(?:\.long\(|_option\(alloc, |flag\(alloc, )"([\w-]+)"', "".join(sources)))
                 page = text("packages", f"{name}.1").replace("\\-", "-")
                 options = page.partition(".SH OPTIONS")[2].partition(".SH EXIT")[0]
@@ -437,7 +444,7 @@ class Packaged(Case):
         statuses = re.findall(r"(?m)^\.TP\n([0-9, ]+)$", "".join(pages.values()))
         self.assertEqual(set(", ".join(statuses).split(", ")), set(", ".join(table).split(", ")))
         self.needs("man", shutil.which("man") is not None)
-        pages.update({name: text("packages", name) for name in ("osdmapd.1", "osdmapstore.1")})
+        pages.update({name: text("packages", name) for name in (f"{program}.1" for program in PROGRAMS)})
         for name, page in pages.items():
             with self.subTest(name=name), tempfile.TemporaryDirectory() as folder:
                 path = pathlib.Path(folder, "page.1")
@@ -487,7 +494,7 @@ class Installed(LinkedCase):
             self.told(["dpkg-deb", "-x", self.package(folder, alone(self.program)), root])
             self.check_first_commands(root=root)
             pages = {path.name for path in (root / "usr/share/man/man1").iterdir()}
-            names = ["osdmapd", "osdmapstore", *(path.stem for path in map(pathlib.Path, NAMED) if path.suffix == ".1")]
+            names = [*PROGRAMS, *(path.stem for path in map(pathlib.Path, NAMED) if path.suffix == ".1")]
             self.assertEqual(pages, {f"{name}.1.gz" for name in names})
             for path in ("share/bash-completion/completions/rekhuso", "share/zsh/vendor-completions/_rekhuso"):
                 self.assertTrue((root / "usr" / path).is_file(), path)

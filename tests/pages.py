@@ -206,7 +206,7 @@ def members() -> dict[str, set[str]]:
 
 def options_of_programs() -> list[str]:
     """The options of the programs, without their hyphens."""
-    files = (("cli", "arguments"), ("osdmapd", "line"), ("osdmapstore", "line"))
+    files = (("cli", "arguments"), ("osdmapd", "line"), ("osdmapstore", "line"), ("readmap", "line"))
     lines = [text("crates", crate, "src", f"{name}.rt") for crate, name in files]
     return re.findall(r'(?:\.long\(|_option\(alloc, |flag\(alloc, )"([\w-]+)"', "".join(lines))
 

@@ -25,6 +25,7 @@ from rekhuso.cluster.reasons.buckets import root_reasons
 from rekhuso.cluster.reasons.counts import pools_reason, total_reason
 from rekhuso.cluster.reasons.rules import size_reasons
 from rekhuso.program.maps import altered, written
+from rekhuso.version import VERSION
 
 from tests.binary_maps import crc_at, maps_of, with_crc
 from tests.cases import TOP, Case
@@ -85,14 +86,13 @@ class ReadMaps(Case):
         return str(path)
 
     def told(self, *paths: str) -> tuple[int, str, str]:
-        """What the program tells of files: its status, output and error."""
+        """What the program tells of the maps of files: its status, output and error."""
+        return self.ran("--map", *paths)
+
+    def ran(self, *words: str) -> tuple[int, str, str]:
+        """What the program answers to words: its status, output and error."""
         done = subprocess.run(
-            [reader(), "--map", *paths],
-            capture_output=True,
-            text=True,
-            timeout=SECONDS,
-            check=False,
-            preexec_fn=bounded,
+            [reader(), *words], capture_output=True, text=True, timeout=SECONDS, check=False, preexec_fn=bounded
         )
         return done.returncode, done.stdout, done.stderr
 
@@ -114,6 +114,45 @@ class ReadMaps(Case):
                     refused += 1
         self.assertGreater(texts, 15)
         self.assertGreater(refused, 3)
+
+    def test_words(self) -> None:
+        """The version and help are put out; of words that mean nothing standard error tells, with status 2"""
+        self.assertEqual(self.ran("--version"), (0, f"readmap {VERSION}\n", ""))
+        status, output, error = self.ran("--help")
+        self.assertEqual((status, error), (0, ""))
+        for word in ("--map <FILE>...", "--judge <SCRIPT> <FILE>...", "--version"):
+            self.assertIn(word, output)
+        path = self.put("osdmap", maps_of("16.2.15")["few_hosts"])
+        for words in ([], ["--map"], ["--judge", path], ["--maps", path], ["--map", path, "--map", path]):
+            with self.subTest(words=words):
+                status, output, error = self.ran(*words)
+                self.assertEqual((status, output), (2, ""))
+                self.assertIn("--help", error)
+
+    def test_missing(self) -> None:
+        """A file that is not there is told, with status 1, and those behind it are read; where a script is not there,
+        no map is"""
+        missing, script = str(self.folder / "missing"), self.put("script", b"")
+        path = self.put("osdmap", maps_of("16.2.15")["few_hosts"])
+        whole = {words: self.ran(*words)[1] for words in ((path,), ("--map", path), ("--judge", script, path))}
+        self.assertNotIn("", whole.values())
+        for words, output in whole.items():
+            status, told, error = self.ran(*words[:-1], missing, path)
+            self.assertEqual((status, told), (1, output))
+            self.assertStarts(error, f"{missing}: ")
+        status, told, error = self.ran("--judge", missing, path)
+        self.assertEqual((status, told), (1, ""))
+        self.assertStarts(error, f"{missing}: ")
+
+    def test_order(self) -> None:
+        """What stands in files is told first, then maps, then what a script does, however the words stand"""
+        script, path = self.put("script", b""), self.put("osdmap", maps_of("16.2.15")["few_hosts"])
+        parts = ((path,), ("--map", path), ("--judge", script, path))
+        whole = "".join(self.ran(*words)[1] for words in parts)
+        for words in ([*parts[0], *parts[1], *parts[2]], [*parts[0], *parts[2], *parts[1]], [*parts[2], "--", path]):
+            status, told, error = self.ran(*words)
+            wanted = whole if "--map" in words else self.ran(path)[1] + self.ran(*parts[2])[1]
+            self.assertEqual((status, told, error), (0, wanted, ""))
 
     def test_reasons(self) -> None:
         """What keeps a map out is told by its name, or the refusal of its parts by that of this."""

@@ -10,13 +10,17 @@ import shutil
 import subprocess
 import sys
 import tempfile
+from unittest import mock
 
 from tests.cases import EXAMPLES, TOP, Case
+from tests.read_maps import reader
 
 SECONDS = 1200
 # The tables and the modules that are run over a linked program, and over one with a store.
 ROWS = "worked placements changes growth limits texts sessions balance program stock examples soak".split()
 STORED = ("store_files", "store_kills")
+# Those over one that reads a cluster's own map.
+READ = ("read_maps", "judged_maps")
 # A program for the tests alone: it tells the version that it is given, which starts a thread.
 SOURCE = """
 #include <pthread.h>
@@ -131,7 +135,7 @@ class LinkedPrograms(LinkedCase):
     """The programs of this repository, linked so."""
 
     is_alone = True
-    PROGRAMS = ("OSDMAPD", "OSDMAPSTORE")
+    PROGRAMS = ("OSDMAPD", "OSDMAPSTORE", "READMAP")
 
     def run_tests(self, program: pathlib.Path, *tables: str, store: str = "") -> None:
         """Runs tables and modules of tests over programs."""
@@ -150,6 +154,12 @@ class LinkedPrograms(LinkedCase):
         store = pathlib.Path(os.environ.get("OSDMAPSTORE", TOP / "crates/osdmapstore/out/osdmapstore")).resolve()
         self.needs("osdmapstore", store.is_file())
         self.run_tests(self.program, *STORED, store=str(self.linked(store)))
+
+    def test_reader(self) -> None:
+        """The linked program that reads a cluster's own map tells its text, and judges scripts over it"""
+        self.needs(f"program {reader()} (READMAP names another)", reader().is_file())
+        with mock.patch.dict(os.environ, READMAP=str(self.linked(reader()))):
+            self.run_tests(self.program, *READ)
 
     def test_older_library(self) -> None:
         """Where the C library is older than the built program asks for, that does not start, and the linked one

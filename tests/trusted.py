@@ -209,7 +209,7 @@ class Trusted(Case):
         """The page of promises has as many C functions of each program as the other counts, and that names each of them
         or says that its log has cut them short"""
         said = part_of(TOP / "docs" / "PROVED.md", "What is trusted")
-        for program in ("osdmapd", "osdmapstore"):
+        for program in ("osdmapd", "osdmapstore", "readmap"):
             table = part_of(PAGE, f"C functions below {program}")
             found = re.findall(r"^\| \w+ \| (\d+) \| \d+ \| (.*) \|$", table, re.MULTILINE)
             for number, names in found:

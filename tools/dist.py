@@ -74,7 +74,7 @@ def fault_of(log: pathlib.Path, programs: list[pathlib.Path]) -> str:
 def program_fault(program: pathlib.Path, sums_told: dict[str, str]) -> str:
     """Why a program is none of a release whose gate has told sums; nothing where it is."""
     if not os.access(program, os.X_OK) or program.is_dir():
-        return f"{program} is no program: make run and make store prove and build both"
+        return f"{program} is no program: make run, make store and make judge prove and build them"
     if static.sum_of(program) != sums_told.get(program.name):
         return f"{program} is not the one that the gate built"
     done = subprocess.run([program, "--version"], stdout=subprocess.PIPE, text=True, check=False, timeout=60)

@@ -1,25 +1,31 @@
-//! Tells what stands in files that `ceph osd getmap -o FILE` has written: `readmap FILE..`. Of a file that is no such
-//! map, or is damaged, the first fault is told. Of files behind the word `--map` the map is told as its text, as
-//! `rekhuso import` writes it, or on standard error why it does not come in as one map; the status is then 1. Behind
-//! `--judge SCRIPT` it is told what the commands of a script do to such a map: the status is 0 where all are to be
-//! given, and else 1.
+//! Tells what stands in files that `ceph osd getmap -o FILE` has written, and what a script does to such a map:
+//! `readmap [--map FILE..] [--judge SCRIPT FILE..] [FILE..]`. Of a file that is no such map, or is damaged, the first
+//! fault is told. Of the files behind `--map` the map is told as its text, as `rekhuso import` writes it, or on
+//! standard error why it does not come in as one map. Behind `--judge` it is told what the commands of a script do to
+//! each map. The status is 0 where each map is told and all commands are to be given, 2 where the command line means
+//! nothing, and else 1.
 //!
+//! - `line`, `choices`: what a command line asks for
 //! - `told`: what is told of a map
 //! - `text`: the text of a map
 //! - `judged`: what a script does to a map
 //! - `verdicts`: what is told of that
 #![tactic(auto)]
 
+mod choices;
 mod judged;
+mod line;
 mod text;
 mod told;
 mod verdicts;
 
 use cephbytes::{ReadError, Refused};
 use cephmap::{CephMap, checked_map};
+use choices::{Options, WordsError};
 use judged::judged_script;
+use line::options;
 use std::process::ExitCode;
-use std::rt::{Env, Files};
+use std::rt::Files;
 use std::thread::Threads;
 use std::{fs, io};
 use text::{Untold, map_text};
@@ -93,14 +99,25 @@ fn tell_script<R: AllocGlobal + Print + Eprint + Threads + Sync>(
     }
 }
 
-/// Tells of the map in a file what is asked; whether that is well.
-fn tell_asked<R: Files + AllocGlobal + Print + Eprint + Threads + Sync>(
+/// The bytes of a file, or nothing where it is not read, which is told.
+fn bytes_of<R: Files + AllocGlobal + Eprint>(rt: &R, name: &str) -> io::Result<Option<Vec<u8>>> {
+    match fs::read(rt, name) {
+        Ok(bytes) => Ok(Some(bytes)),
+        Err(error) => {
+            eprintln!(rt; "{name}: {error}")?;
+            Ok(None)
+        }
+    }
+}
+
+/// Tells of the map that bytes are what is asked; whether that is well.
+fn tell_bytes<R: AllocGlobal + Print + Eprint + Threads + Sync>(
     rt: &R,
     asked: &Asked,
     name: &str,
+    bytes: &[u8],
 ) -> io::Result<bool> {
-    let bytes = fs::read(rt, name)?;
-    match (checked_map(rt.alloc(), &bytes), asked) {
+    match (checked_map(rt.alloc(), bytes), asked) {
         (Ok(map), Asked::Text) => tell_text(rt, name, &map),
         (Ok(map), Asked::Verdict(script)) => tell_script(rt, name, &map, script),
         (Ok(map), Asked::Parts) => {
@@ -118,32 +135,66 @@ fn tell_asked<R: Files + AllocGlobal + Print + Eprint + Threads + Sync>(
     }
 }
 
-/// Tells of each file; whether all is well.
-fn tell_all<R: Files + AllocGlobal + Print + Eprint + Env + Threads + Sync>(
+/// Tells of the map in each file what is asked; whether all is well.
+fn tell_files<R: Files + AllocGlobal + Print + Eprint + Threads + Sync>(
     rt: &R,
+    asked: &Asked,
+    names: &[String],
 ) -> io::Result<bool> {
-    let mut asked = Asked::Parts;
-    let mut is_script = false;
     let mut all = true;
-    for name in std::env::args(rt)?.skip(1) {
-        if is_script {
-            asked = Asked::Verdict(fs::read(rt, name.as_str())?);
-            is_script = false;
-        } else if name.as_str() == "--map" {
-            asked = Asked::Text;
-        } else if name.as_str() == "--judge" {
-            is_script = true;
-        } else {
-            all = tell_asked(rt, &asked, name.as_str())? && all;
-        }
+    for name in names {
+        let name = name.as_str();
+        all = match bytes_of(rt, name)? {
+            Some(bytes) => tell_bytes(rt, asked, name, &bytes)? && all,
+            None => false,
+        };
     }
     Ok(all)
 }
 
+/// Tells what a script does to the map in each file, the script's name first; whether all of it is to be given.
+fn tell_judged<R: Files + AllocGlobal + Print + Eprint + Threads + Sync>(
+    rt: &R,
+    judged: &[String],
+) -> io::Result<bool> {
+    let Some((script, names)) = judged.split_first() else {
+        return Ok(true);
+    };
+    match bytes_of(rt, script.as_str())? {
+        Some(script) => tell_files(rt, &Asked::Verdict(script), names),
+        None => Ok(false),
+    }
+}
+
+/// Tells all that a command line asks for; whether all is well.
+fn tell_all<R: Files + AllocGlobal + Print + Eprint + Threads + Sync>(
+    rt: &R,
+    options: &Options,
+) -> io::Result<bool> {
+    let parts = tell_files(rt, &Asked::Parts, &options.parts)?;
+    let texts = tell_files(rt, &Asked::Text, &options.texts)?;
+    Ok(tell_judged(rt, &options.judged)? && texts && parts)
+}
+
+/// Shows the help that a command line asks for, or tells why it means nothing.
+fn tell_line<R: Print + Eprint>(rt: &R, error: &WordsError) -> io::Result<ExitCode> {
+    match error {
+        WordsError::Help(text) => {
+            print!(rt; "{text}")?;
+            return Ok(ExitCode::SUCCESS);
+        }
+        WordsError::Usage(text) => eprint!(rt; "{text}")?,
+        WordsError::Memory => eprintln!(rt; "there is no memory for the command line")?,
+    }
+    Ok(ExitCode::from(2))
+}
+
 fn main(rt: HostRuntime) -> io::Result<ExitCode> {
-    if tell_all(&rt)? {
-        Ok(ExitCode::SUCCESS)
-    } else {
-        Ok(ExitCode::FAILURE)
+    let alloc = rt.alloc();
+    let words = std::env::args(&rt)?.collect::<Vec<String>>(alloc)?;
+    match options(alloc, words.as_slice()) {
+        Ok(options) if tell_all(&rt, &options)? => Ok(ExitCode::SUCCESS),
+        Ok(_) => Ok(ExitCode::FAILURE),
+        Err(error) => tell_line(&rt, &error),
     }
 }
