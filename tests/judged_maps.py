@@ -9,21 +9,87 @@ from __future__ import annotations
 
 import os
 import pathlib
+import random
+import re
 import shutil
+import struct
 import subprocess
 from collections import Counter
+from typing import Any
 
-from rekhuso import Monitor
+from rekhuso import Monitor, Refused
 from rekhuso.cluster.cluster import Cluster
 from rekhuso.cluster.conversion import map_of
 from rekhuso.cluster.dumps import both_dumps
-from rekhuso.plans.printed_commands import commands_in
+from rekhuso.plans.printed_commands import PrintedCommand, command_in, commands_in
 from rekhuso.program.answers import Up
-from rekhuso.program.maps import Map, with_all_up
+from rekhuso.program.maps import Entry, Map, with_all_up
 
-from tests.binary_maps import maps_of
+from tests.binary_maps import maps_of, with_crc
 from tests.read_maps import SECONDS, comes_in, given, reader
 from tests.tool_cases import StockCase, Tools
+
+# How many commands are drawn over each map, and one more over the odd one; what a map refuses of them; and why a monitor
+# takes exceptions away, as the program tells it, by a session's reason, where {} stands for each of its numbers. Before
+# the two last of these comes another reason, whatever a command by itself says.
+DRAWN = 20
+ODD = "ceph osd pg-upmap 3.0 4 8 0"
+REFUSALS = ("UnknownGroup", "UnknownOsd", "BadException")
+GONE = {
+    "chooseleaf {} {} {}": "by step {} osd.{} and osd.{} stand below one bucket",
+    "choose {} {}": "its set stands below {1} buckets, more than step {0} chooses",
+    "take {} {}": "a place stands outside of what is taken before step {}",
+    "unreached {}": "the rule does not reach osd.{}",
+    "idle-set": "its set is what the rule gives",
+    "set-length": "its set has another length than the pool's size",
+    "idle-pairs": "none of its pairs does anything",
+    "unreached none": "a place is empty",
+    "out {}": "osd.{} is out",
+}
+# Of what goes by a part of a change, the kind of exceptions that stays.
+OTHER = {"old_upmap": "items", "old_items": "upmap"}
+
+
+def odd_map() -> bytes:
+    """A map in which osd.0 weighs nothing, osd.3 is out, and replicated pools have more places than their rule gives."""
+    data = maps_of("16.2.15")["few_hosts"]
+    for old, new in (
+        ([476898] * 4, [0] + [476898] * 3),
+        ([12] + [65536] * 12, [12] + [65536] * 3 + [0] + [65536] * 8),
+        ([6, 0, 1], [6, 2, 1]),
+    ):
+        own, other = (struct.pack(f"<{len(words)}I", *words) for words in (old, new))
+        assert own in data, old
+        data = data.replace(own, other)
+    return with_crc(data)
+
+
+def gone(why: str) -> tuple[str, str]:
+    """The form of a session's reason, and what the program tells for it."""
+    form = why if why in GONE else re.sub("[0-9]+|none", "{}", why)
+    return form, GONE[form].format(*why.split(" ")[1:])
+
+
+def exceptions_of(value: Map, group: str) -> dict[str, Entry | None]:
+    """The exceptions of a group in a map, by their kind."""
+    keys = {"upmap": value["pg_upmap"], "items": value["pg_upmap_items"]}
+    return {kind: next((own for one, own in entries if one == group), None) for kind, entries in keys.items()}
+
+
+def drawn(chance: random.Random, monitor: Monitor, value: Map) -> str:
+    """A command on exceptions of a group, whose OSDs are drawn among those of its set and others."""
+    pool, osds = chance.choice(value["pools"]), range(value["max_osd"] + 1)
+    number = chance.randrange(pool["pg_num"])
+    there = [osd for osd in monitor.up(f"{pool['id']}.{number:x}").places if osd is not None]
+    group = f"{pool['id']}.{number if chance.random() < 0.95 else pool['pg_num']:x}"
+    kind = chance.randrange(8)
+    if kind < 2:
+        return f"ceph osd rm-pg-upmap{'-items' * kind} {group}"
+    if kind < 6:
+        pairs = [(chance.choice([*there, chance.choice(osds)]), chance.choice(osds)) for _ in range(kind // 2)]
+        return f"ceph osd pg-upmap-items {group} {' '.join(f'{one} {other}' for one, other in pairs)}"
+    own = [chance.choice(osds) if chance.random() < 0.3 else osd for osd in [*there, chance.choice(osds)]]
+    return f"ceph osd pg-upmap {group} {' '.join(map(str, own[: chance.randint(1, 9)]))}"
 
 
 def shown(up: Up) -> str:
@@ -176,6 +242,48 @@ class JudgedMaps(StockCase):
         }.items():
             with self.subTest(line):
                 self.is_in_doubt("\n".join([*lines[: own[1]], line, *lines[own[1] + 1 :]]) + "\n", path, own[1], why)
+
+    def wanted(self, monitor: Monitor, value: Map, command: PrintedCommand) -> tuple[str, str]:
+        """How a command by itself is to be judged, which a session takes and gives back: in a word, and in the lines
+        that are told of it."""
+        group, had = command.group, exceptions_of(value, command.group)
+        try:
+            was, _ = monitor.up(group), monitor.change(**command.change)
+        except Refused as refused:
+            return refused.name, f"in doubt: the map refuses it: {refused.name}"
+        now, _, left = monitor.up(group), monitor.follow(), monitor.follower_kept(group)
+        has_some = any(part.startswith("new_") or had[OTHER[part]] for part in command.change)
+        back: dict[str, Any] = {f"old_{kind}": [group] for kind, own in had.items() if own is None}
+        back |= {f"new_{kind}": [[group, own]] for kind, own in had.items() if own is not None}
+        monitor.change(**back)
+        if not has_some or left.what == "all":
+            return "all", f"{group} goes from {shown(was)} to {shown(now)}"
+        if left.what == "fewer":
+            return "fewer", "in doubt: a monitor would take some of its pairs away again"
+        form, told = gone(left.why)
+        return form, f"in doubt: a monitor would take it away again: {told}"
+
+    def test_drawn(self) -> None:
+        """Commands that are drawn, each by itself: what stands, what a map refuses, and each reason for which a monitor
+        takes exceptions away, as a session has it."""
+        chance, found = random.Random(3), Counter[str]()
+        for name, data in [*given(), ("odd", odd_map())]:
+            path = self.tools.folder / "osdmap"
+            path.write_bytes(data)
+            cluster, faults = both_dumps(str(path), str(path))
+            if faults or not comes_in(cluster):
+                continue
+            value = with_all_up(map_of(cluster))
+            with Monitor(value, program=self.program, stock=True) as monitor:
+                lines = [drawn(chance, monitor, value) for _ in range(DRAWN)]
+                for line in [*lines, ODD] if name == "odd" else lines:
+                    with self.subTest(f"{name}: {line}"):
+                        how, told = self.wanted(monitor, value, command_in(line))
+                        status, output, error = self.judged(f"# one\n{line}\n", path)
+                        self.assertEqual((output[0], error), (f"line 2: {told}", ""))
+                        self.assertEqual((status, len(output) > 1), (int(how != "all"), how == "all"))
+                        found[how] += 1
+        self.assertEqual({*[*GONE][:-2], "all", "fewer", *REFUSALS} - {*found}, set(), found)
 
     def test_passed(self) -> None:
         """Lines that give no command, and a script of none."""

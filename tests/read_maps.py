@@ -123,7 +123,8 @@ class ReadMaps(Case):
         for word in ("--map <FILE>...", "--judge <SCRIPT> <FILE>...", "--version"):
             self.assertIn(word, output)
         path = self.put("osdmap", maps_of("16.2.15")["few_hosts"])
-        for words in ([], ["--map"], ["--judge", path], ["--maps", path], ["--map", path, "--map", path]):
+        wrong: list[list[str]] = [[], ["--map"], ["--judge", path], ["--maps", path], ["--map", path, "--map", path]]
+        for words in wrong:
             with self.subTest(words=words):
                 status, output, error = self.ran(*words)
                 self.assertEqual((status, output), (2, ""))
@@ -153,6 +154,25 @@ class ReadMaps(Case):
             status, told, error = self.ran(*words)
             wanted = whole if "--map" in words else self.ran(path)[1] + self.ran(*parts[2])[1]
             self.assertEqual((status, told, error), (0, wanted, ""))
+
+    def test_status(self) -> None:
+        """The status is 1 wherever one of several maps is not told or a command is in doubt, whatever stands beside"""
+        script, doubtful = self.put("script", b""), self.put("doubtful", b"ceph osd out 1\n")
+        path, other = (self.put(name, maps_of("16.2.15")[name]) for name in ("few_hosts", "tiers"))
+        for words, status in (
+            (("--map", path, path), 0),
+            (("--map", other, path), 1),
+            (("--map", path, other), 1),
+            (("--judge", script, path, path), 0),
+            (("--judge", script, other, path), 1),
+            (("--judge", doubtful, path), 1),
+            ((path, "--map", other), 1),
+            (("--map", other, "--judge", script, path), 1),
+            (("--map", path, "--judge", doubtful, path), 1),
+            ((path, "--map", path, "--judge", script, path), 0),
+        ):
+            with self.subTest(words=words):
+                self.assertEqual(self.ran(*words)[0], status)
 
     def test_reasons(self) -> None:
         """What keeps a map out is told by its name, or the refusal of its parts by that of this."""
