@@ -29,9 +29,9 @@ from tests.binary_maps import maps_of, with_crc
 from tests.read_maps import SECONDS, comes_in, given, reader
 from tests.tool_cases import StockCase, Tools
 
-# How many commands are drawn over each map, and one more over the odd one; what a map refuses of them; and why a monitor
-# takes exceptions away, as the program tells it, by a session's reason, where {} stands for each of its numbers. Before
-# the two last of these comes another reason, whatever a command by itself says.
+# How many commands are drawn over each map, and one more over the odd one; what a map refuses of them; and why a
+# monitor takes exceptions away, as the program tells it, by a session's reason, where {} stands for each of its
+# numbers. Before the two last of these comes another reason, whatever a command by itself says.
 DRAWN = 20
 ODD = "ceph osd pg-upmap 3.0 4 8 0"
 REFUSALS = ("UnknownGroup", "UnknownOsd", "BadException")
@@ -51,7 +51,7 @@ OTHER = {"old_upmap": "items", "old_items": "upmap"}
 
 
 def odd_map() -> bytes:
-    """A map in which osd.0 weighs nothing, osd.3 is out, and replicated pools have more places than their rule gives."""
+    """A map in which osd.0 weighs nothing, osd.3 is out, and replicated pools have more places than their rule."""
     data = maps_of("16.2.15")["few_hosts"]
     for old, new in (
         ([476898] * 4, [0] + [476898] * 3),
