@@ -1,3 +1,4 @@
 pub mod Texts
 pub mod Judged
 pub mod CommandLine
+pub mod Words

@@ -10,6 +10,7 @@
 //! - `text`: the text of a map
 //! - `judged`: what a script does to a map
 //! - `verdicts`: what is told of that
+//! - `words`: why there is no answer, or why a line is not to be given
 #![tactic(auto)]
 
 mod choices;
@@ -18,8 +19,8 @@ mod line;
 mod text;
 mod told;
 mod verdicts;
+mod words;
 
-use cephbytes::{ReadError, Refused};
 use cephmap::{CephMap, checked_map};
 use choices::{Options, WordsError};
 use judged::judged_script;
@@ -28,9 +29,10 @@ use std::process::ExitCode;
 use std::rt::Files;
 use std::thread::Threads;
 use std::{fs, io};
-use text::{Untold, map_text};
+use text::map_text;
 use told::tell_map;
 use verdicts::tell_verdict;
+use words::fault;
 
 /// What is to be told of files.
 #[derive(Drop)]
@@ -41,27 +43,6 @@ enum Asked {
     Text,
     /// What a script does.
     Verdict(Vec<u8>),
-}
-
-/// Why bytes are no map.
-fn fault(error: &ReadError) -> &'static str {
-    match error {
-        ReadError::Memory => "there is no memory for it",
-        ReadError::Refused(Refused::Short) => "it is cut off, or a length in it lies",
-        ReadError::Refused(Refused::TooNew) => "a part of it is of a later release",
-        ReadError::Refused(Refused::Trailing) => "more stands behind it",
-        ReadError::Refused(Refused::Unknown) => "a part of it is of a kind that is not known",
-        ReadError::Refused(Refused::WrongSum) => "its sum is not that of its bytes",
-    }
-}
-
-/// Tells why a file has no text of a map.
-fn tell_untold<R: Eprint>(rt: &R, name: &str, why: &Untold) -> io::Result<()> {
-    match why {
-        Untold::Memory => eprintln!(rt; "{name}: there is no memory for it"),
-        Untold::StaysOut(why) => eprintln!(rt; "{name}: it does not come in: {}", why.name()),
-        Untold::Refused(refusal) => eprintln!(rt; "{name}: it is no map: {}", refusal.name()),
-    }
 }
 
 /// Tells the map of a cluster as its text, or why there is none; whether there is one.
@@ -77,7 +58,7 @@ fn tell_text<R: AllocGlobal + Print + Eprint>(
             Ok(true)
         }
         Err(why) => {
-            tell_untold(rt, name, &why)?;
+            eprintln!(rt; "{name}: {why}")?;
             Ok(false)
         }
     }
@@ -93,7 +74,7 @@ fn tell_script<R: AllocGlobal + Print + Eprint + Threads + Sync>(
     match judged_script(rt, rt.alloc(), map, script) {
         Ok(judged) => tell_verdict(rt, &judged),
         Err(why) => {
-            tell_untold(rt, name, &why)?;
+            eprintln!(rt; "{name}: {why}")?;
             Ok(false)
         }
     }

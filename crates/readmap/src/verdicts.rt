@@ -1,10 +1,10 @@
 //! What is told of what a script does.
 
 use crate::judged::JudgedScript;
+use crate::words::InDoubt;
 use maptypes::UpSet;
 use std::io;
-use upmap_cleanup::Cause;
-use verdict::{Doubt, Doubted, Taken};
+use verdict::Taken;
 
 /// Tells what stands at a place of a set, behind others or at first.
 fn tell_place<R: Print>(rt: &R, at: usize, place: Option<u16>) -> io::Result<()> {
@@ -39,42 +39,6 @@ fn tell_taken<R: Print>(rt: &R, taken: &Taken) -> io::Result<()> {
     println!(rt; "")
 }
 
-/// Tells why a monitor would take all exceptions of a group away.
-fn tell_cause<R: Print>(rt: &R, cause: Cause) -> io::Result<()> {
-    match cause {
-        Cause::Crowded { step, one, other } => {
-            print!(rt; "by step {step} osd.{one} and osd.{other} stand below one bucket")
-        }
-        Cause::Spread { step, buckets } => {
-            print!(rt; "its set stands below {buckets} buckets, more than step {step} chooses")
-        }
-        Cause::Outside { step, .. } => {
-            print!(rt; "a place stands outside of what is taken before step {step}")
-        }
-        Cause::Unreached(Some(osd)) => print!(rt; "the rule does not reach osd.{osd}"),
-        Cause::Unreached(None) => print!(rt; "a place is empty"),
-        Cause::Out(osd) => print!(rt; "osd.{osd} is out"),
-        Cause::IdleSet => print!(rt; "its set is what the rule gives"),
-        Cause::SetLength => print!(rt; "its set has another length than the pool's size"),
-        Cause::IdlePairs => print!(rt; "none of its pairs does anything"),
-    }
-}
-
-/// Tells why a line is not to be given.
-fn tell_doubt<R: Print>(rt: &R, doubted: &Doubted) -> io::Result<()> {
-    print!(rt; "line {}: in doubt: ", doubted.line.saturating_add(1))?;
-    match doubted.why {
-        Doubt::Unknown => print!(rt; "no command that is known"),
-        Doubt::Refused(refusal) => print!(rt; "the map refuses it: {}", refusal.name()),
-        Doubt::Fewer => print!(rt; "a monitor would take some of its pairs away again"),
-        Doubt::Gone(cause) => {
-            print!(rt; "a monitor would take it away again: ")?;
-            tell_cause(rt, cause)
-        }
-    }?;
-    println!(rt; "")
-}
-
 /// Tells of each OSD that exists how many groups it has before and after.
 fn tell_counts<R: Print>(rt: &R, judged: &JudgedScript) -> io::Result<()> {
     let map = &judged.verdict.map;
@@ -95,7 +59,7 @@ pub(crate) fn tell_verdict<R: Print>(rt: &R, judged: &JudgedScript) -> io::Resul
     }
     match judged.verdict.doubt {
         Some(doubted) => {
-            tell_doubt(rt, &doubted)?;
+            println!(rt; "{}", InDoubt(doubted))?;
             Ok(false)
         }
         None => {
