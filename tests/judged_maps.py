@@ -32,7 +32,7 @@ from tests.tool_cases import StockCase, Tools
 # How many commands are drawn over each map, and one more over the odd one; what a map refuses of them; and why a
 # monitor takes exceptions away, as the program tells it, by a session's reason, where {} stands for each of its
 # numbers. Before the two last of these comes another reason, whatever a command by itself says.
-DRAWN = 20
+DRAWN = 40
 ODD = "ceph osd pg-upmap 3.0 4 8 0"
 REFUSALS = ("UnknownGroup", "UnknownOsd", "BadException")
 GONE = {
