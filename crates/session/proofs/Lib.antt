@@ -5,6 +5,7 @@ mod Histories
 mod Told
 mod PoolSets
 mod Passing
+mod Pushed
 mod Asked
 mod Coming
 mod Firsts

@@ -165,7 +165,12 @@ fn push_sets(text: &mut String, word: &str, sets: &PoolSets) -> Result<(), Alloc
 fn push_count(text: &mut String, epoch: u64, osd: u32, count: usize) -> Result<(), AllocError>
     ensures { OnOk result (string_bytes text.new ≡ string_bytes text.old ++ count_text epoch osd count) }
 {
-    writeln!(text, "count {epoch} {osd} {count}")
+    push_word(text, "count", epoch)?;
+    text.push(' ')?;
+    push_number(text, u64::from(osd))?;
+    text.push(' ')?;
+    push_number(text, count as u64)?;
+    text.push('\n')
 }
 
 /// Adds the line of an OSD's groups.
@@ -173,7 +178,10 @@ fn push_count(text: &mut String, epoch: u64, osd: u32, count: usize) -> Result<(
 fn push_groups(text: &mut String, epoch: u64, osd: u32, groups: &[Pg]) -> Result<(), AllocError>
     ensures { OnOk result (string_bytes text.new ≡ string_bytes text.old ++ groups_text epoch osd groups.now) }
 {
-    write!(text, "groups {epoch} {osd} [")?;
+    push_word(text, "groups", epoch)?;
+    text.push(' ')?;
+    push_number(text, u64::from(osd))?;
+    text.push_str(" [")?;
     push_list(text, groups)?;
     text.push_str("]\n")
 }

@@ -1,12 +1,8 @@
-use Rattle.std.proofs.Common.{◌≡◌, ◌∙◌, ◌++◌, ap, sym, append_assoc, codes, decimal, refl, OnOk, Result, Ok, Err, List, ℕ}
+use Rattle.std.proofs.Common.{◌≡◌, ◌∙◌, ◌++◌, ap, sym, append_assoc, codes, decimal, refl, List, ℕ}
 use Rattle.std.specs.String.{string_bytes}
 use Rattle.session.specs.Texts.{crowded_text}
+use Rattle.session.proofs.Pushed.{on_ok}
 use Rattle.session.proofs.reply.push_crowded.Goals as goal
-
--- what is said where a call is answered says more
-on_ok : {X E : Type 0} (P Q : Type 0) (r : Result X E) → (P → Q) → OnOk r P → OnOk r Q
-on_ok P Q (Ok x) more p = more p
-on_ok P Q (Err e) more p = tt
 
 -- six texts put one behind the other
 joined : (s0 s1 s2 s3 s4 s5 s6 a b c d e : List ℕ) → s1 ≡ s0 ++ a → s2 ≡ s1 ++ b → s3 ≡ s2 ++ c → s4 ≡ s3 ++ d → s5 ≡ s4 ++ c → s6 ≡ s5 ++ e
