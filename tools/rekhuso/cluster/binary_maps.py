@@ -236,6 +236,7 @@ def check_crc(data: bytes) -> None:
         raise Misread("it is damaged: its CRC is another one")
 
 
+@remembered(4)
 def is_binary_map(path: str) -> bool:
     """Whether a file has a binary map, of whichever release. A fault where it cannot be read."""
     data = unpacked_bytes(path)

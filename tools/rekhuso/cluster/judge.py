@@ -154,18 +154,18 @@ class Judge:
         bucket; by `choose`, OSDs below more buckets than its own number, whatever steps stand before it.
         """
         holders = self.holders(rule, step[2])
+        held = [holders[osd] for osd in {*places} if osd in holders]
+        apart = len({*held})
+        if apart == len(held) if step[0].startswith("chooseleaf") else apart <= count:
+            return None
         inside: dict[int, set[int]] = {}
         for osd in places:
             if osd in holders:
                 inside.setdefault(holders[osd], set()).add(osd)
         if step[0].startswith("chooseleaf"):
-            crowded = next((bucket for bucket in sorted(inside) if len(inside[bucket]) > 1), None)
-            if crowded is None:
-                return None
+            crowded = next(bucket for bucket in sorted(inside) if len(inside[bucket]) > 1)
             osds = " and ".join(f"osd.{osd}" for osd in sorted(inside[crowded]))
             return Reason("chooseleaf", self.words(step), f"{osds} stand below {self.name(crowded)}")
-        if len(inside) <= count:
-            return None
         told = f"its set stands below {len(inside)} buckets of that type, {count} may be"
         return Reason("choose", self.words(step), told)
 

@@ -5,6 +5,7 @@ from __future__ import annotations
 from collections import Counter
 from collections.abc import Collection, Iterable
 from copy import copy
+from itertools import chain
 
 from ..program.answers import Up
 from ..program.map_forms import FULL_WEIGHT
@@ -21,16 +22,19 @@ class Shares:
         """Takes a lawful map and the up set of each of its groups."""
         self.value, self.ups = value, ups
         self.osds = {osd["id"]: osd for osd in value["osds"]}
+        # While OSDs are down that are in, nothing tells by whom a group is short.
+        self.has_down = any(own["exists"] and own["weight"] and not own["up"] for own in self.osds.values())
         self.sets = {pool["id"]: list(map(ups.__getitem__, groups_in(pool))) for pool in value["pools"]}
         self.counts_in = {pool["id"]: self.counted(pool) for pool in value["pools"]}
-        self.counts = Counter[int](sums_by_osd(self.counts_in))
+        self.counts = Counter[int](chain.from_iterable(own.elements() for own in self.counts_in.values()))
         self.buckets = {bucket["id"]: bucket for bucket in value["buckets"]}
         self.items = {item: weight for bucket in value["buckets"] for item, weight in bucket["items"]}
         self.trees: dict[int, list[dict[int, int]]] = {}
         self.reaches: dict[tuple[int, int], ReachByRule] = {}
         self.reached_by: dict[int, list[dict[int, int]]] = {}
-        # Shares that are known by what trees are, and trees that are kept for that.
+        # Shares that are known by what trees are, which trees are alike, and trees that are kept for that.
         self.known: dict[tuple[int, ...], dict[int, float]] = {}
+        self.alike: dict[tuple[tuple[int, ...], tuple[int, ...]], bool] = {}
         self.kept: list[dict[int, int]] = []
         self.shares_by = {pool["id"]: self.shares_in(pool) for pool in value["pools"]}
         self.reach_by = {pool["id"]: self.reach_in(pool) for pool in value["pools"]}
@@ -44,7 +48,7 @@ class Shares:
         found.value, found.ups, pools = value, ups, [pool for pool in value["pools"] if pool["id"] in moved]
         found.sets = {**self.sets, **{pool["id"]: list(map(ups.__getitem__, groups_in(pool))) for pool in pools}}
         found.counts_in = {**self.counts_in, **{pool["id"]: found.counted(pool) for pool in pools}}
-        found.counts = Counter(sums_by_osd(found.counts_in))
+        found.counts = Counter[int](chain.from_iterable(own.elements() for own in found.counts_in.values()))
         found.reached_by = {number: own for number, own in self.reached_by.items() if number not in moved}
         found.shares_by = {**self.shares_by, **{pool["id"]: found.shares_in(pool) for pool in pools}}
         found.reach_by = {**self.reach_by, **{pool["id"]: found.reach_in(pool) for pool in pools}}
@@ -116,10 +120,8 @@ class Shares:
     def beside_short(
         self, pool: Pool, tree: dict[int, int], block: tuple[Reach, int, list[RuleStep]] | None
     ) -> dict[int, int]:
-        """What a pool's rule can give the OSDs of a tree, beside groups left short. While OSDs are down that are in,
-        nothing tells by whom a group is short.
-        """
-        if block is None or any(own["exists"] and own["weight"] and not own["up"] for own in self.osds.values()):
+        """What a pool's rule can give the OSDs of a tree, beside groups left short."""
+        if block is None or self.has_down:
             return tree
         reach, root, steps = block
         if not reach.full:
@@ -144,8 +146,11 @@ class Shares:
 
     def reach_in(self, pool: Pool) -> dict[int, float]:
         """How many places of a pool its rule can give the OSDs; the shares by weight where it is these."""
-        trees = self.reach_trees(pool)
-        return self.shares_by[pool["id"]] if trees == self.trees_for(pool) else self.shared(pool, trees)
+        trees, own = self.reach_trees(pool), self.trees_for(pool)
+        key = tuple(map(id, trees)), tuple(map(id, own))
+        if key not in self.alike:
+            self.alike[key] = trees == own
+        return self.shares_by[pool["id"]] if self.alike[key] else self.shared(pool, trees)
 
     def shared(self, pool: Pool, trees: list[dict[int, int]]) -> dict[int, float]:
         """The places of a pool, shared tree by tree as its OSDs weigh there: one value for pools that have as many
@@ -160,7 +165,9 @@ class Shares:
             found: dict[int, float] = {}
             for weights, places in zip(trees, key[1::2]):
                 total = sum(weights.values())
-                found.update({osd: places * weight / total for osd, weight in weights.items()} if total else {})
+                # OSDs of one weight have one share, which is reckoned once.
+                share = {weight: places * weight / total for weight in {*weights.values()}} if total else {}
+                found.update(zip(weights, map(share.__getitem__, weights.values())) if share else {})
             self.known[tuple(key)] = found
         return self.known[tuple(key)]
 

@@ -80,6 +80,14 @@ class Filling:
                 return f"osd.{osd} would get more than a place above the most that it has before the plan or after it"
         return None
 
+    def is_within(self, step: Step, high: Mapping[int, float], bound: float) -> bool:
+        """Whether it is seen at once that a step may come into a part, as most may: no disk is known then."""
+        if self.measure.limits:
+            return False
+        share, most, size = self.measure.spread.share, self.most, step.size
+        ends = [(high[osd], bound * share.get(osd, 0.0), most.get(osd, 0) + size) for osd in step.come]
+        return all([own <= by_share and own <= by_most for own, by_share, by_most in ends])
+
     def part(self, steps: Sequence[Step]) -> tuple[str, str] | None:
         """Takes a part: all that comes in it counts, and nothing that goes. The line of the first step by which an OSD
         passes a bound, and how; None where there is none. One step alone may pass it, where no disk is known, and steps
@@ -91,7 +99,7 @@ class Filling:
             for osd in step.come:
                 high[osd] = high.get(osd, 0) + step.size
             self.levels.put(step.come, step.size)
-            why = None if found else self.fault(step, high, bound)
+            why = None if found or self.is_within(step, high, bound) else self.fault(step, high, bound)
             found = found if why is None else (step.line, why)
         for step in steps:
             self.levels.put(step.go, -step.size)

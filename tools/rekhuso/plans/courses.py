@@ -4,8 +4,8 @@ from __future__ import annotations
 
 from collections import defaultdict
 from collections.abc import Iterable, Iterator, Sequence
-from dataclasses import dataclass
 from itertools import chain, groupby
+from typing import NamedTuple
 
 from ..cluster.followed import MOST_CHANGES, session_over
 from ..cluster.moving import coming, erasure_pools, leaving
@@ -13,7 +13,6 @@ from ..cluster.names import set_words
 from ..program.answers import ups_of
 from ..program.maps import Map, Program, entries_of, group_key, groups_of, with_all_up, written
 from ..program.session import Session
-from ..values import SLOTS
 from .bounds import Filling, Measure, Step
 from .printed_commands import PrintedCommand, defect
 
@@ -21,8 +20,7 @@ from .printed_commands import PrintedCommand, defect
 Sets = dict[str, "list[int | None]"]
 
 
-@dataclass(frozen=True, **SLOTS)
-class Given:
+class Given(NamedTuple):
     """A command that the program has accepted: the set of its group then, and the counts of the OSDs that it names."""
 
     places: list[int | None]
@@ -84,9 +82,10 @@ class Course:
     def give(self, session: Session, commands: Sequence[PrintedCommand]) -> None:
         """Gives some commands, and asks after each for the set of its group and for counts."""
         epoch, near = session.epoch(), list(map(self.near, commands))
+        changes = written([{**own.change, "base": epoch + at} for at, own in enumerate(commands)])[2:-2].split("},{")
         lines = [
-            [f"change {written({**own.change, 'base': epoch + at})}", f"up {own.group}", *map("count {}".format, osds)]
-            for at, (own, osds) in enumerate(zip(commands, near))
+            [f"change {{{change}}}", f"up {own.group}", *[f"count {osd}" for osd in osds]]
+            for change, own, osds in zip(changes, commands, near)
         ]
         answers, at, ups = session.raw(list(chain.from_iterable(lines))), 0, []
         for own, osds in zip(commands, near):

@@ -12,6 +12,7 @@ from __future__ import annotations
 from collections.abc import Collection, Iterable, Mapping, Sequence
 from dataclasses import dataclass
 from heapq import heapify, heappop, heappush
+from operator import sub
 
 from ..values import SLOTS
 
@@ -63,6 +64,10 @@ class Levels:
     def top(self, without: Collection[int] = ()) -> float:
         """How full the fullest OSD is, of those that are not left aside, and at least the floor."""
         aside, heap, now = dict[int, float](), self.heap, self.now
+        while heap and heap[0][0] != -now[heap[0][1]]:
+            heappop(heap)
+        if heap and heap[0][1] not in without:  # Most calls end here.
+            return max(-heap[0][0], self.floor)
         while heap and (heap[0][0] != -now[heap[0][1]] or heap[0][1] in without):
             level, osd = heappop(heap)
             if level == -now[osd]:
@@ -73,14 +78,24 @@ class Levels:
         return found
 
 
-def rise_of(levels: Levels, shifts: Iterable[Shift]) -> float:
-    """By how much the fullest OSD gets fuller at most by one of some steps that are taken."""
-    found, before = 0.0, levels.top()
+def tops_of(levels: Levels, shifts: Iterable[Shift]) -> list[float]:
+    """How full the fullest OSD is before some steps that are taken, and after each."""
+    found = [levels.top()]
     for shift in shifts:
         levels.move(shift, 1)
-        after = levels.top()
-        found, before = max(found, after - before), after
+        found.append(levels.top())
     return found
+
+
+def rise_in(tops: Sequence[float], floor: float) -> float:
+    """By how much the fullest OSD gets fuller at most by one step, where it counts as no less full than a floor."""
+    own = [top if top > floor else floor for top in tops]
+    return max(0.0, max(map(sub, own[1:], own), default=0.0))
+
+
+def rise_of(levels: Levels, shifts: Iterable[Shift]) -> float:
+    """By how much the fullest OSD gets fuller at most by one of some steps that are taken."""
+    return rise_in(tops_of(levels, shifts), levels.floor)
 
 
 class Backwards:
@@ -104,9 +119,8 @@ class Backwards:
     def peak(self, group: str) -> float:
         """How full an OSD is before a step from which it goes."""
         shift, level = self.left[group], self.levels.level
-        if len(shift.go) == 1:
-            return level(shift.go[0], shift.size)
-        return max([level(osd, shift.size) for osd in shift.go], default=0.0)
+        go, size = shift.go, shift.size
+        return level(go[0], size) if len(go) == 1 else max([level(osd, size) for osd in go], default=0.0)
 
     def rank(self, groups: Iterable[str]) -> None:
         """Ranks steps by how full an OSD is before each of them now."""
@@ -124,16 +138,19 @@ class Backwards:
         """The step that was the last: without it an OSD is least full, of those without which the fullest is as full;
         where it is less full without each, that without which it is fullest.
         """
-        top, aside, found = self.levels.top(), dict[str, float](), None
-        while self.heap and found is None:
-            peak, group = heappop(self.heap)
-            if group not in self.left or group in aside or peak != self.peak(group):
+        top, aside, left, heap = self.levels.top(), dict[str, float](), self.left, self.heap
+        while heap:
+            peak, group = heappop(heap)
+            if group not in left or group in aside or peak != self.peak(group):
                 continue
-            aside[group] = max(peak, self.levels.top(self.left[group].come))
-            found = group if aside[group] >= top - ALIKE_RATIOS else None
+            without = max(peak, self.levels.top(left[group].come))
             self.rank(self.behind(group))
+            if without >= top - ALIKE_RATIOS:
+                self.rank(aside)
+                return group
+            aside[group] = without
         self.rank(aside)
-        return max(aside, key=lambda group: (aside[group], group)) if found is None else found
+        return max(aside, key=lambda group: (aside[group], group))
 
     def take_back(self, group: str) -> None:
         """Takes a step back."""

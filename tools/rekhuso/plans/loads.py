@@ -63,7 +63,10 @@ def shares_of(trees: Iterable[Mapping[int, int]], counts: Mapping[int, int]) -> 
 
 def places_in(trees: Iterable[Mapping[int, int]], counts: Mapping[int, int]) -> list[int]:
     """How many places OSDs have, tree by tree."""
-    return [sum(count for osd, count in counts.items() if osd in weights) for weights in trees]
+    return [
+        sum(counts.values() if counts.keys() <= weights.keys() else (counts[osd] for osd in counts if osd in weights))
+        for weights in trees
+    ]
 
 
 def offsets(by_weight: Mapping[int, int], shares: Mapping[int, int]) -> dict[int, int]:

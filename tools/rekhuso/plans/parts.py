@@ -7,7 +7,7 @@ from dataclasses import replace
 
 from .bounds import Measure
 from .busy import ALL
-from .falling_order import ALIKE_RATIOS, Levels, Shift, falling, rise_of
+from .falling_order import ALIKE_RATIOS, Levels, Shift, falling, rise_in, rise_of, tops_of
 from .measures import Measures
 from .mend import mended
 from .step_order import StepOrder, has_after, parts_in_order
@@ -115,10 +115,8 @@ class OrderSearch:
 
     def rises(self, groups: Sequence[str]) -> list[float]:
         """The same of all steps, by each of the floors, of which the last is the lowest."""
-        least = self.rise(self.levels(self.floors[-1]), groups)
-        if round(least, DIGITS) <= 0:
-            return [0.0 for _ in self.floors]
-        return [round(self.rise(self.levels(floor), groups), DIGITS) for floor in self.floors]
+        tops = tops_of(self.levels(self.floors[-1]), map(self.shifts.__getitem__, groups))
+        return [round(rise_in(tops, floor), DIGITS) for floor in self.floors]
 
     def fallen(self, levels: Levels, groups: Sequence[str]) -> list[str]:
         """An order of steps, which have been taken and are taken back, in which the fullest OSD gets fuller by none, if

@@ -15,6 +15,7 @@ from __future__ import annotations
 from collections import Counter
 from collections.abc import Iterator, Mapping, Sequence
 from heapq import heapify, heappop, heappush
+from itertools import chain
 
 from ..cluster.evenness import Spread
 from .busy import Busy, MostBusy, NO_LIMIT, partakers
@@ -65,10 +66,9 @@ class StepOrder:
         self.left = {at for at, osds in enumerate(self.go) if osds}
         self.high: dict[int, float] = {}
         self.shut: set[int] = set()
-        self.busy = Busy(NO_LIMIT)
-        self.partakers = [partakers(step.was, come) for step, come in zip(steps, self.come)]
-        self.level = {osd: self.full(osd) for osds in (spread.osds(), *self.come, *self.go) for osd in osds}
-        self.tops = [(-self.level[osd], osd) for osd in spread.osds()]
+        self.busy, self.partakers, own = Busy(NO_LIMIT), list[set[int]](), spread.osds()
+        self.level = {osd: self.full(osd) for osd in {*own, *chain(*self.come, *self.go)}}
+        self.tops = [(-self.level[osd], osd) for osd in own]
         heapify(self.tops)
         self.rises, self.has_risen = 0, False
         self.bound, end = 0.0, dict(self.has)
@@ -100,18 +100,18 @@ class StepOrder:
     def worst(self, has: Mapping[int, float], at: int) -> float:
         """How full a step makes an OSD at most where OSDs have so much."""
         come, size = self.come[at], self.sizes[at]
-        if len(come) == 1:
-            return self.ratio(has.get(come[0], 0) + size, come[0])
+        if len(come) == 1 and (share := self.share.get(come[0], 0.0)) > 0:
+            return (has.get(come[0], 0) + size) / share
         return max((self.ratio(has.get(osd, 0) + size, osd) for osd in come), default=0.0)
 
     def in_order(self, rank: Sequence[int], most: int, ahead: int) -> list[list[PlanStep]]:
         """Takes steps in the order of these numbers, in parts of at most so many commands. A part ends before the first
         step that may not come, unless another of so many that are next may; one that may come into none stands alone.
         """
-        found, left = list[list[PlanStep]](), list(rank)
-        while left:
+        found, left, begin = list[list[PlanStep]](), list(rank), 0
+        while begin < len(left):
             self.begin()
-            part, count, at, passed = list[int](), 0, 0, list[int]()
+            part, count, at, passed = list[int](), 0, begin, list[int]()
             while at < len(left) and len(passed) <= ahead and count < most:
                 own, commands = left[at], len(self.steps[left[at]].commands)
                 if self.is_allowed(own) and (not part or count + commands <= most):
@@ -121,9 +121,10 @@ class StepOrder:
                 else:
                     passed.append(own)
                 at += 1
-            left = passed + left[at:]
+            begin = at - len(passed)
+            left[begin:at] = passed
             if not part:
-                part = [left.pop(0)]
+                part, begin = [left[begin]], begin + 1
                 self.take(part[0])
             found.append([self.steps[own] for own in part])
         return found
@@ -138,15 +139,20 @@ class StepOrder:
     def limit(self, most: MostBusy) -> None:
         """OSDs and hosts take part in no more moves of a part than this from now on."""
         self.busy = Busy(most)
+        if most.is_any:
+            self.partakers = [partakers(step.was, come) for step, come in zip(self.steps, self.come)]
 
     def is_allowed(self, at: int) -> bool:
         """Whether a step may come into the part."""
-        if not self.busy.lets(self.partakers[at]):
+        if self.busy.is_counted and not self.busy.lets(self.partakers[at]):
             return False
         if self.limits:
             return not self.over(at)
-        is_below = all([self.high.get(osd, 0) <= self.most[osd] for osd in self.come[at]])
-        return is_below and self.peak(at) <= self.bound
+        high, most = self.high, self.most
+        for osd in self.come[at]:
+            if high.get(osd, 0) > most[osd]:
+                return False
+        return self.worst(high, at) <= self.bound
 
     def begin(self) -> None:
         """A part begins."""
@@ -163,28 +169,37 @@ class StepOrder:
         those that may come and by which the fullest OSD gets no fuller. One that may not come now may not come later in
         the part.
         """
-        level, come, shut = self.level, self.come, self.shut
-        own = self.leaving[osd] = [at for at in self.leaving[osd] if at in self.left]
-        free = [at for at in own if at not in shut and (at in self.first or not first)]
-        most = (self.fullest() + ROUNDING if self.rises < MOST_RISES else float("inf")) if free else 0.0
-        for _, at in sorted([(max([level[other] for other in come[at]], default=0.0), at) for at in free]):
+        level, come, shut, left = self.level, self.come, self.shut, self.left
+        own = self.leaving[osd] = [at for at in self.leaving[osd] if at in left]
+        free = [at for at in own if at not in shut and (at in self.first or not first)] if first or shut else own
+        if not free:
+            return None
+        most = self.fullest() + ROUNDING if self.rises < MOST_RISES else float("inf")
+        for _, at in sorted([(level[to[0]] if len(to := come[at]) == 1 else self.highest(at), at) for at in free]):
             if self.filled(at) <= most:
                 if self.is_allowed(at):
                     return at
                 shut.add(at)
         return None
 
+    def highest(self, at: int) -> float:
+        """How full the fullest of the OSDs is to which a step leads."""
+        return max([self.level[osd] for osd in self.come[at]], default=0.0)
+
     def take(self, at: int) -> None:
         """Takes a step."""
+        has, level, high, size = self.has, self.level, self.high, self.sizes[at]
         self.left.discard(at)
-        self.shift(self.has, at)
+        self.shift(has, at)
         for osd in self.come[at] + self.go[at]:
-            self.level[osd] = self.full(osd)
-            if self.share.get(osd, 0.0) > 0:
-                heappush(self.tops, (-self.level[osd], osd))
+            share = self.share.get(osd, 0.0)
+            level[osd] = own = has[osd] / share if share > 0 else self.full(osd)
+            if share > 0:
+                heappush(self.tops, (-own, osd))
         for osd in self.come[at]:
-            self.high[osd] = self.high.get(osd, 0) + self.sizes[at]
-        self.busy.take(self.partakers[at])
+            high[osd] = high.get(osd, 0) + size
+        if self.busy.is_counted:
+            self.busy.take(self.partakers[at])
 
     def part(self, most: int) -> list[PlanStep]:
         """The next part, with at most so many commands, or one step with more. Where no step may come, the one that

@@ -4,11 +4,10 @@ from __future__ import annotations
 
 from collections.abc import Sequence
 from dataclasses import dataclass
-from heapq import heapify, heappop, heappush
 
-from ..cluster.evenness import Spread
 from ..values import SLOTS
 from .bounds import Measure
+from .falling_order import Levels, Shift, tops_of
 from .json_forms import WorthParts
 from .steps import PlanStep
 
@@ -39,41 +38,10 @@ class Worth:
         }
 
 
-class Fullest:
-    """The fullest OSD, to its share, while steps are taken one by one."""
-
-    def __init__(self, measure: Measure) -> None:
-        """Takes what OSDs have before the steps."""
-        self.measure, self.has = measure, dict(measure.spread.has)
-        self.now = Spread(self.has, measure.spread.share)
-        self.heap = [(-self.now.ratio(osd), osd) for osd in self.now.osds()]
-        heapify(self.heap)
-
-    def take(self, step: PlanStep) -> None:
-        """Takes a step."""
-        size = self.measure.size(step.group)
-        for osds, more in ((step.places_come(), size), (step.places_leave(), -size)):
-            for osd in osds:
-                self.has[osd] = self.has.get(osd, 0) + more
-        for osd in {*step.places_come(), *step.places_leave()}:
-            if self.now.share.get(osd, 0.0) > 0:
-                heappush(self.heap, (-self.now.ratio(osd), osd))
-
-    def ratio(self) -> float:
-        """How full the fullest is; 0 where no OSD has a share."""
-        while self.heap and self.heap[0][0] != -self.now.ratio(self.heap[0][1]):
-            heappop(self.heap)
-        return -self.heap[0][0] if self.heap else 0.0
-
-
 def fullest_after(measure: Measure, steps: Sequence[PlanStep]) -> list[float]:
-    """How full the fullest OSD is before some steps, and after each of them."""
-    own = Fullest(measure)
-    found = [own.ratio()]
-    for step in steps:
-        own.take(step)
-        found.append(own.ratio())
-    return found
+    """How full the fullest OSD is before some steps, and after each of them; 0 where no OSD has a share."""
+    levels = Levels(measure.spread.has, measure.spread.share, 0.0)
+    return tops_of(levels, [Shift(own.places_come(), own.places_leave(), measure.size(own.group)) for own in steps])
 
 
 def reached(full: Sequence[float], ratio: float) -> int | None:

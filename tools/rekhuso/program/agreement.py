@@ -51,11 +51,11 @@ class Agreement:
     def check_answer(self, line: str, answer: str) -> None:
         """A fault where an answer is none of its line."""
         word, _, asked = line.partition(" ")
-        start = f"{word} {self.epoch} {asked} "
-        if answer.startswith(start) and word in FORMS:
-            if word == "ups" and are_whole_sets(answer[len(start) :]) or FORMS[word].fullmatch(answer, len(start)):
+        form = FORMS.get(word)
+        if form is not None and answer.startswith(start := f"{word} {self.epoch} {asked} "):
+            if word == "ups" and are_whole_sets(answer[len(start) :]) or form.fullmatch(answer, len(start)):
                 return
-        if word in FORMS and not answer.startswith("err "):
+        if form is not None and not answer.startswith("err "):
             self.check_look(word, asked, answer)
         elif answer.startswith(("ok ", "moved ")):
             words = answer.split(" ")

@@ -4,7 +4,7 @@ from __future__ import annotations
 
 import json
 from collections.abc import Iterable, Iterator, Mapping
-from itertools import repeat
+from itertools import chain, repeat
 from typing import NamedTuple, cast
 
 from ..faults import Refused
@@ -99,8 +99,9 @@ def balance_line(pool: int, most: int, apart: int = 256, carried: Mapping[int, i
     """The line by which a pool is balanced: in the short form where two OSDs must differ by no more than a group and
     nothing is carried.
     """
-    pairs = [f"[{osd},{parts}]" for osd, parts in sorted((carried or {}).items()) if parts]
-    return f"balance {pool} {most}" + (f" {apart} [{','.join(pairs)}]" if pairs or apart != 256 else "")
+    own = [pair for pair in sorted((carried or {}).items()) if pair[1]]
+    pairs = ",".join(["[%d,%d]"] * len(own)) % tuple(chain.from_iterable(own))
+    return f"balance {pool} {most}" + (f" {apart} [{pairs}]" if own or apart != 256 else "")
 
 
 def accepted_answer(answer: str) -> str:
