@@ -161,11 +161,16 @@ class Loads:
             one, weight = STEP_PARTS * (2 * squared + WEIGHT * place * place), WEIGHT * place
             each = ((groups[osd] - more) * squared + weight * (data[osd] - more * place) for osd, more in own.items())
             nearest = [(2 * parts + one) // (2 * one) for parts in each]
-        else:
-            nearest = [(groups[osd] - more + STEP_PARTS) >> HALF_BITS for osd, more in own.items()]
-        if nearest and not -half <= min(nearest) <= max(nearest) <= half:
-            nearest = [-half if parts < -half else half if parts > half else parts for parts in nearest]
-        return dict(zip(own, nearest))
+            if nearest and not -half <= min(nearest) <= max(nearest) <= half:
+                nearest = [-half if parts < -half else half if parts > half else parts for parts in nearest]
+            return dict(zip(own, nearest))
+        # Most OSDs carry more than so many: below the one bound, or not below the other, nothing else is reckoned.
+        low, high = -(2 * half + 1) * STEP_PARTS, (2 * half + 1) * STEP_PARTS
+        return {
+            osd: -half if parts < low else half if parts >= high else (parts + STEP_PARTS) >> HALF_BITS
+            for osd, more in own.items()
+            for parts in [groups[osd] - more]
+        }
 
     def told(self, number: int, half: int) -> dict[int, int]:
         """What the program is told that OSDs carry: what they do, and by how much their shares by weight are above
