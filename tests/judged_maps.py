@@ -274,6 +274,8 @@ class JudgedMaps(StockCase):
             if faults or not comes_in(cluster):
                 continue
             value = with_all_up(map_of(cluster))
+            if not value["pools"]:
+                continue
             with Monitor(value, program=self.program, stock=True) as monitor:
                 lines = [drawn(chance, monitor, value) for _ in range(DRAWN)]
                 for line in [*lines, ODD] if name == "odd" else lines:
