@@ -1,13 +1,11 @@
 -- Where the rules of a map place, beside CRUSH over the cluster's own map.
-use Rattle.std.specs.Prelude.{◌≡◌, ℕ, pos, int_lt, Bool, true, List, map, Some, Ok, Contains, slice_get}
-use Rattle.std.specs.List.{list_all}
+use Rattle.std.specs.Prelude.{◌≡◌, ℕ, List, map, Some, Ok, Contains, slice_get}
 use Rattle.crush.specs.Run.{run_of}
 use Rattle.crush.specs.World.{world_of}
 use Rattle.mapparts.specs.declared.parts.MapParts.{MapParts}
 use Rattle.maptypes.specs.Values.{step_of}
 use Rattle.osdmap.specs.Maps.{ClusterMap, HoldsTogether}
 use Rattle.osdmap.specs.Stated.{IsStated}
-use Rattle.cephmap.specs.declared.crush.Crush.{Crush}
 use Rattle.cephmap.specs.declared.map.CephMap.{CephMap}
 use Rattle.cephmap.specs.declared.pool.Pool.{Pool}
 use Rattle.cephmap.specs.declared.rule.Rule.{Rule}

@@ -173,8 +173,8 @@ class Cluster:
 
     def steps_of(self, rule: DumpRule) -> list[RuleStep]:
         """The steps of a rule in the map's form, behind those that set tunables. A block that chooses as many as the
-        size less as many or more gives nothing: only the tries that it sets stay, since they hold for the blocks
-        behind it.
+        size less as many or more, and takes nothing behind that, gives nothing: only the tries that it sets stay, since
+        they hold for the blocks behind it.
         """
         steps: list[RuleStep] = []
         block: list[RuleStep] = []
@@ -182,8 +182,10 @@ class Cluster:
         for step in rule["steps"]:
             own = self.step_of(step, size)
             block.append(own)
-            is_idle = is_idle or own[0].startswith("choose") and step["num"] < 0 and own[1] <= 0 and self.is_stock
-            is_idle = is_idle and own[0] != "take"
+            if own[0] == "take":
+                is_idle = False
+            elif own[0].startswith("choose") and step["num"] < 0 and own[1] <= 0 and self.is_stock:
+                is_idle = True
             if step["op"] == "emit":
                 steps += [own for own in block if own[0] in SETTING] if is_idle else block
                 block, is_idle = [], False
